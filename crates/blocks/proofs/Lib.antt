@@ -1,0 +1,2 @@
+-- Laws of passes.
+pub mod Laws

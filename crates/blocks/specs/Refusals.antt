@@ -1,0 +1,28 @@
+-- The paper's number of each refusal ("Refused, in checking order").
+use Prim.Native.Nat.{ℕ}
+use Rattle.blocks.specs.declared.Refusal.{Refusal}
+use Rattle.blocks.specs.declared.Refusal.the-variants.{ShortImage, NoMagic, BlockSize, BlockCount, MissingBlocks, ShortMap, DescriptorLength, DescriptorArea, NoCheckpoint, Incompatible, CountDiffers, PastContainer, BadChecksum, WrongKind, BadNode, Unmapped, OutsideBytes, WrongLevel, AddressBlocks, BadBitmap, Overflow, TooManyNodes}
+
+unfoldable pub numberOf : Refusal → ℕ
+numberOf ShortImage = 1
+numberOf NoMagic = 2
+numberOf BlockSize = 3
+numberOf BlockCount = 4
+numberOf MissingBlocks = 5
+numberOf ShortMap = 6
+numberOf DescriptorLength = 7
+numberOf DescriptorArea = 8
+numberOf NoCheckpoint = 9
+numberOf Incompatible = 10
+numberOf CountDiffers = 11
+numberOf PastContainer = 12
+numberOf BadChecksum = 13
+numberOf WrongKind = 14
+numberOf BadNode = 15
+numberOf Unmapped = 16
+numberOf OutsideBytes = 17
+numberOf WrongLevel = 18
+numberOf AddressBlocks = 19
+numberOf BadBitmap = 20
+numberOf Overflow = 21
+numberOf TooManyNodes = 22

@@ -1,0 +1,167 @@
+-- The theorem of specs/Commit.antt: until the last store is complete the answer and the map are the old image's.
+use mathlib.Core.Path.{_≡_, refl, sym, ap, _∙_, subst}
+use mathlib.Core.Bool.{Bool, true, false, not, _&&_, _||_, true≢false}
+use mathlib.Core.List.{List, [], _∷_, _++_, append-assoc}
+use mathlib.Core.Logic.{_≢_}
+use Prim.Native.Nat.{ℕ, zero, suc, _+_, _*_, _<_, _≤_}
+use native.Mathlib.Omega.{arith}
+use native.Mathlib.Nat.{zero-mul}
+use lib.Dec.{leb, eqb}
+use lib.ListN.{length, take, drop}
+use lib.Seq.{take-take}
+use borrow.Author.Tests.{leb-true, leb-false, ne-eqb}
+use Rattle.fields.specs.Choice.{pick}
+use Rattle.fields.specs.Header.{xidOf}
+use Rattle.blocks.specs.Reads.{Reads, _>>=_, run, noBlocks, visits, Outcome, given}
+use Rattle.blocks.specs.Blocks.{blockOf}
+use Rattle.blocks.proofs.Laws.{Agree, run-bind, visits-bind, local, need-held}
+use Rattle.checkpoint.specs.Superblock.{sound, blockSize}
+use Rattle.checkpoint.specs.Geometry.{geometry, sizeAllowed, leastSize}
+use Rattle.checkpoint.specs.Map.{chain}
+use Rattle.checkpoint.specs.Checkpoint.{Taken, takeSuperblock}
+use Rattle.checkpoint.specs.declared.Geometry.{Geometry}
+use Rattle.checkpoint.specs.declared.Mapping.{Mapping}
+use Rattle.space_check.specs.Check.{Result, check, checkIn, settle, pass, rest}
+use Rattle.commit.specs.Stores.{Store, CutOf, blockTouched, finished, complete}
+use Rattle.commit.specs.Commit.{Takes, Rules, Limit, Runs, Crash, takenAt, kept, noneOf, runs, promised}
+use Rattle.commit.proofs.Stores.{and-left, and-right, not-true, block-same, complete-finished}
+use Rattle.commit.proofs.Choice.{numbersFrom, take-run, take-visits}
+
+-- a block that refusal 3 lets pass has at least the bytes that refusals 1 to 8 look at
+allowed-least : (n : ℕ) → sizeAllowed n ≡ true → leastSize ≤ n
+unfolding sizeAllowed
+allowed-least n e = go (leb leastSize n) refl
+  where
+    go : (t : Bool) → leb leastSize n ≡ t → leastSize ≤ n
+    go true h = leb-true leastSize n h
+    go false h =
+        let small : n < leastSize = leb-false leastSize n h in
+        absurd (true≢false (sym e ∙ simp (ne-eqb n 4096 (omega arith), ne-eqb n 8192 (omega arith), ne-eqb n 16384 (omega arith), ne-eqb n 32768 (omega arith), ne-eqb n 65536 (omega arith))))
+
+given-same : (a b : Geometry) → given a ≡ given b → a ≡ b
+given-same a b e = cc
+
+geometry-size : (len room : ℕ) (b : List ℕ) (g : Geometry) → run noBlocks (geometry len b room) ≡ given g → leastSize ≤ g .size
+unfolding geometry run
+geometry-size len room b g e =
+    let p₁ = need-held noBlocks _ _ _ g e in
+    let p₂ = need-held noBlocks _ _ _ g (p₁ .1) in
+    let p₃ = need-held noBlocks _ _ _ g (p₂ .1) in
+    let p₄ = need-held noBlocks _ _ _ g (p₃ .1) in
+    let p₅ = need-held noBlocks _ _ _ g (p₄ .1) in
+    let p₆ = need-held noBlocks _ _ _ g (p₅ .1) in
+    let p₇ = need-held noBlocks _ _ _ g (p₆ .1) in
+    let p₈ = need-held noBlocks _ _ _ g (p₇ .1) in
+    let same = given-same _ g (p₈ .1) in
+    subst (λ (h : Geometry). leastSize ≤ h .size) same (allowed-least (blockSize b) (p₃ .0))
+
+first-of : (l : List ℕ) (size : ℕ) → leastSize ≤ size → take leastSize (blockOf l size 0) ≡ take leastSize l
+unfolding blockOf
+first-of l size h = rw (zero-mul size) (take-take leastSize size l h)
+
+-- the blocks that a pass reads: block 0 apart, the descriptor area, the taken superblock's map blocks, and what follows
+pub pass-visits : (f : ℕ → List ℕ) (g : Geometry) (map : List ℕ) (at : ℕ) (ms : List Mapping) → Takes f g at ms
+    → visits f (pass g map) ≡ numbersFrom (g .ring) (g .base) ++ (visits f (chain g (f (g .base + at))) ++ visits f (rest g map (takenAt f g at ms)))
+unfolding pass
+pass-visits f g map at ms t = visits-bind f (takeSuperblock g) (rest g map) ∙ rw (take-run f g at ms t, take-visits f g at ms t, append-assoc) refl
+
+pass-run : (f : ℕ → List ℕ) (g : Geometry) (map : List ℕ) (at : ℕ) (ms : List Mapping) → Takes f g at ms → run f (pass g map) ≡ run f (rest g map (takenAt f g at ms))
+unfolding pass
+pass-run f g map at ms t = run-bind f (takeSuperblock g) (rest g map) ∙ rw (take-run f g at ms t) refl
+
+-- from a test that no block of a list meets, images that agree on it
+agree-left : (f g : ℕ → List ℕ) (xs ys : List ℕ) → Agree f g (xs ++ ys) → Agree f g xs
+unfolding Agree
+agree-left f g [] ys h = tt
+agree-left f g (x ∷ xs) ys h = (h .0, agree-left f g xs ys (h .1))
+
+agree-right : (f g : ℕ → List ℕ) (xs ys : List ℕ) → Agree f g (xs ++ ys) → Agree f g ys
+unfolding Agree
+agree-right f g [] ys h = h
+agree-right f g (x ∷ xs) ys h = agree-right f g xs ys (h .1)
+
+none-agree : (f g : ℕ → List ℕ) (test : ℕ → Bool) → ((n : ℕ) → test n ≡ false → f n ≡ g n) → (l : List ℕ) → noneOf test l ≡ true → Agree f g l
+unfolding Agree noneOf
+none-agree f g test h [] e = tt
+none-agree f g test h (n ∷ ns) e =
+    (h n (not-true (test n) (and-left (not (test n)) (noneOf test ns) e)), none-agree f g test h ns (and-right (not (test n)) (noneOf test ns) e))
+
+-- the old answer at a cut that keeps the limit
+module _ (image map : List ℕ) (ss : List Store) (r : Rules image map ss) (cut : List ℕ) (c : CutOf ss image cut) (l : Limit r cut) where
+  abbrev g : Geometry
+  g = r .g
+
+  abbrev at : ℕ
+  at = r .at
+
+  abbrev old : ℕ → List ℕ
+  old = blockOf image (r .g .size)
+
+  abbrev new : ℕ → List ℕ
+  new = blockOf cut (r .g .size)
+
+  agrees : (n : ℕ) → blockTouched ss (g .size) n ≡ false → old n ≡ new n
+  agrees n e = sym (block-same c (g .size) n e)
+
+  same-kept : Agree old new (kept old g map at (r .ms))
+  same-kept = none-agree old new (blockTouched ss (g .size)) agrees _ (r .untouched)
+
+  same-superblock : old (g .base + at) ≡ new (g .base + at)
+  unfolding kept Agree
+  same-superblock = same-kept .1 .0
+
+  same-first : take leastSize cut ≡ take leastSize image
+  unfolding kept Agree
+  same-first =
+      let big = geometry-size (length image) (length map) (take leastSize image) g (r .opens) in
+      sym (first-of cut (g .size) big) ∙ (ap (take leastSize) (sym (same-kept .0)) ∙ first-of image (g .size) big)
+
+  opens-again : run noBlocks (geometry (length cut) (take leastSize cut) (length map)) ≡ given g
+  opens-again = rw (c .same-length, same-first) (r .opens)
+
+  abbrev chain-blocks : List ℕ
+  chain-blocks = visits old (chain g (old (g .base + at)))
+
+  abbrev later-blocks : List ℕ
+  later-blocks = visits old (rest g map (takenAt old g at (r .ms)))
+
+  same-reads : Agree old new (chain-blocks ++ later-blocks)
+  unfolding kept Agree
+  same-reads = same-kept .1 .1
+
+  same-chain : run new (chain g (old (g .base + at))) ≡ run old (chain g (old (g .base + at)))
+  same-chain = local old new (chain g (old (g .base + at))) (agree-left old new chain-blocks later-blocks same-reads)
+
+  same-rest : run new (rest g map (takenAt old g at (r .ms))) ≡ run old (rest g map (takenAt old g at (r .ms)))
+  same-rest = local old new (rest g map (takenAt old g at (r .ms))) (agree-right old new chain-blocks later-blocks same-reads)
+
+  still-highest : (j : ℕ) → j < g .ring → j ≢ at → sound (new (g .base + j)) ≡ true → xidOf (new (g .base + j)) < xidOf (old (g .base + at))
+  unfolding Limit
+  still-highest j h ne s = go (blockTouched ss (g .size) (g .base + j)) refl
+    where
+      go : (t : Bool) → blockTouched ss (g .size) (g .base + j) ≡ t → xidOf (new (g .base + j)) < xidOf (old (g .base + at))
+      go true e = l j h e s
+      go false e = rw (← agrees (g .base + j) e) (r .takes .highest j h ne (rw (agrees (g .base + j) e) s))
+
+  takes-again : Takes new g at (r .ms)
+  takes-again = record {
+    inside = r .takes .inside;
+    is-sound = rw (← same-superblock) (r .takes .is-sound);
+    highest = rw (← same-superblock) still-highest;
+    loads = rw (← same-superblock) (same-chain ∙ r .takes .loads);
+  }
+
+  same-pass : run new (pass g map) ≡ run old (pass g map)
+  same-pass = pass-run new g map at (r .ms) takes-again ∙ (rw (← same-superblock) same-rest ∙ sym (pass-run old g map at (r .ms) (r .takes)))
+
+  old-answer : check cut map ≡ check image map
+  unfolding check checkIn
+  old-answer = rw (opens-again, r .opens) (ap (settle (g .count) map) same-pass)
+
+pub crash : Crash
+unfolding runs promised
+crash image map ss r cut c limit = go (complete ss cut) refl
+  where
+    go : (t : Bool) → complete ss cut ≡ t → runs image cut map ≡ promised ss image cut map
+    go true e = rw (e, ← complete-finished ss image cut c e) refl
+    go false e = rw (e, old-answer image map ss r cut c (limit e)) refl

@@ -1,0 +1,3 @@
+-- The commit rules, and what two runs answer.
+pub mod Stores
+pub mod Commit

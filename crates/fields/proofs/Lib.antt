@@ -1,0 +1,2 @@
+-- Bytes laid out for samples.
+pub mod Rows

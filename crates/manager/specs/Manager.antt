@@ -1,0 +1,114 @@
+-- The space manager's bytes, and its fields.
+use mathlib.Core.List.{List, [], _∷_, _++_}
+use Prim.Native.Nat.{ℕ, zero, suc, _+_, _-_, _/_, _%_, max}
+use lib.Dec.{leb, eqb}
+use lib.ListN.{length, take}
+use Rattle.fields.specs.Fields.{num}
+use Rattle.fletcher.specs.Fletcher.{verifies}
+use Rattle.blocks.specs.Reads.{Reads, done, refuse, _>>=_, need}
+use Rattle.blocks.specs.Blocks.{readRaw, field, sum}
+use Rattle.blocks.specs.declared.Container.{Container}
+use Rattle.blocks.specs.declared.ObjectId.{ObjectId}
+use Rattle.blocks.specs.declared.Refusal.the-variants.{BadChecksum, Unmapped, OutsideBytes, AddressBlocks, Overflow}
+use Rattle.checkpoint.specs.Superblock.{dataBase, dataBlocks, managerId, withoutTopBit}
+use Rattle.checkpoint.specs.Map.{lookup}
+use Rattle.checkpoint.specs.Checkpoint.{Taken}
+use Rattle.checkpoint.specs.declared.Mapping.{Mapping}
+use Rattle.checkpoint.specs.declared.Mapped.{Mapped}
+use Rattle.checkpoint.specs.declared.Mapped.the-variants.{To, Nowhere}
+
+-- the main device: its chunk-info blocks, its address blocks, its free blocks, and where its list stands
+abbrev pub chunkInfoCount : List ℕ → ℕ
+chunkInfoCount sm = num 4 sm 64
+
+abbrev pub addressBlockCount : List ℕ → ℕ
+addressBlockCount sm = num 4 sm 68
+
+abbrev pub deviceFree : List ℕ → ℕ
+deviceFree sm = num 8 sm 72
+
+abbrev pub chunkInfosAt : List ℕ → ℕ
+chunkInfosAt sm = num 4 sm 80
+
+-- the internal pool, the blocks of its bitmap, and the ring that these lie in
+abbrev pub poolBlocks : List ℕ → ℕ
+poolBlocks sm = num 8 sm 152
+
+abbrev pub poolBitmaps : List ℕ → ℕ
+poolBitmaps sm = num 4 sm 160
+
+abbrev pub poolRingBlocks : List ℕ → ℕ
+poolRingBlocks sm = num 4 sm 164
+
+abbrev pub poolRingBase : List ℕ → ℕ
+poolRingBase sm = num 8 sm 168
+
+abbrev pub poolBase : List ℕ → ℕ
+poolBase sm = num 8 sm 176
+
+abbrev pub poolIndicesAt : List ℕ → ℕ
+poolIndicesAt sm = num 4 sm 328
+
+-- the roots of the pool queue (0) and of the main queue (1)
+abbrev pub poolQueue : List ℕ → ObjectId
+poolQueue sm = record { 0 = num 8 sm 208 }
+
+abbrev pub mainQueue : List ℕ → ObjectId
+mainQueue sm = record { 0 = num 8 sm 248 }
+
+-- "ring length (the taken superblock's; top bit dropped, 0 counts as 1)"
+abbrev pub dataRing : List ℕ → ℕ
+dataRing sb = max (withoutTopBit (dataBlocks sb)) 1
+
+-- "its block i at data base + (mapped address − data base + i) mod ring length":
+-- "21. .. the manager's mapped address is below the data base"
+unfoldable pub managerFrom : Container → List ℕ → ℕ → ℕ → ℕ → List ℕ → Reads (List ℕ)
+managerFrom c sb at zero i found = done found
+managerFrom c sb at (suc left) i found = do
+  _ ← need (leb (dataBase sb) at) Overflow
+  o ← sum (at - dataBase sb) i
+  a ← sum (dataBase sb) (o % dataRing sb)
+  b ← readRaw c (record { 0 = a })
+  managerFrom c sb at left (i + 1) (found ++ b)
+
+-- how many blocks an object of n bytes takes
+abbrev pub blocksFor : Container → ℕ → ℕ
+blocksFor c n = (n + (c .size - 1)) / c .size
+
+-- "It needs 344 bytes."
+abbrev pub leastManager : ℕ
+leastManager = 344
+
+-- "verified as one object; size 0 gives 13", which is no object that verifies
+-- "19. The main device has address blocks above its chunk-info blocks (added; tested once the manager is parsed)."
+unfoldable pub managerAt : Container → List ℕ → Mapping → Reads (List ℕ)
+managerAt c sb m = do
+  bs ← managerFrom c sb (m .address .0) (blocksFor c (m .size)) 0 []
+  let sm = take (m .size) bs in do
+    _ ← need (verifies sm) BadChecksum
+    _ ← need (leb leastManager (length sm)) OutsideBytes
+    _ ← need (eqb (addressBlockCount sm) 0) AddressBlocks
+    done sm
+
+-- "16. A needed object id isn't in the checkpoint map."
+unfoldable pub managerBy : Container → List ℕ → Mapped → Reads (List ℕ)
+managerBy c sb Nowhere = refuse Unmapped
+managerBy c sb (To m) = managerAt c sb m
+
+unfoldable pub manager : Container → Taken → Reads (List ℕ)
+manager c t = managerBy c (t .sb) (lookup (managerId (t .sb)) (t .map))
+
+-- "A list of indices, addresses or records is read whole before the first block it names": left fields of w bytes from off on
+unfoldable pub listFrom : ℕ → List ℕ → ℕ → ℕ → Reads (List ℕ)
+listFrom w sm zero off = done []
+listFrom w sm (suc left) off = do
+  x ← field w sm off
+  xs ← listFrom w sm left (off + w)
+  done (x ∷ xs)
+
+-- the indices of the pool's bitmap blocks in their ring, and the addresses of the main device's chunk-info blocks
+abbrev pub poolIndices : List ℕ → Reads (List ℕ)
+poolIndices sm = listFrom 2 sm (poolBitmaps sm) (poolIndicesAt sm)
+
+abbrev pub chunkInfos : List ℕ → Reads (List ℕ)
+chunkInfos sm = listFrom 8 sm (chunkInfoCount sm) (chunkInfosAt sm)

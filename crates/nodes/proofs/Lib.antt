@@ -1,0 +1,2 @@
+-- The definitions of this layer computed on samples.
+pub mod Samples
