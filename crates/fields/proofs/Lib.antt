@@ -1,2 +1,3 @@
--- Bytes laid out for samples.
+-- Laws of fields, and bytes laid out for samples.
+pub mod Laws
 pub mod Rows

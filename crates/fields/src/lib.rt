@@ -1,7 +1,141 @@
-// Little-endian fields of a part of an image (bytes.rs), and the header of an object (obj.rs).
+// Little-endian fields of a part of an image (bytes.rs), the header of an object (obj.rs), and bits.
+ghost use mathlib.Core.Path.{_≡_};
+ghost use Prim.Native.Nat.{_+_, _<_, _≤_};
+ghost use lib.ListN.{length, getD, take, drop};
+ghost use Rattle.fields.specs.Fields.{Number, FieldOf, bitAt};
+ghost use Rattle.fields.specs.Header.{storedChecksum, xidOf, kindOf};
 
 // What stands at a place: a number, or nothing where the field isn't wholly inside its bytes.
 pub enum Field {
     Value(u64),
     Absent,
+}
+
+fn wide(x: u8) -> u64
+    ensures { λ r. ⌜ (r ≡ x) × (r < 256) ⌝ }
+{
+    x as u64
+}
+
+// The byte k places after at, or 0 past the end.
+fn byte_at(s: &[u8], at: usize, k: usize) -> u64
+    ensures { λ r. ⌜ (r ≡ getD (now (s .entry)) (at + k) 0) × (r < 256) ⌝ }
+{
+    let n = s.len();
+    if at < n {
+        if k < n - at {
+            return wide(s[at + k]);
+        }
+    }
+    0
+}
+
+// The number in the w bytes from at on, lowest first; bytes past the end count 0.
+fn number(s: &[u8], at: usize, w: usize) -> u64
+    requires { ⌜ w ≤ 8 ⌝ }
+    ensures { λ r. ⌜ Number w (now (s .entry)) at r ⌝ }
+{
+    let mut v: u64 = 0;
+    let mut k = w;
+    while 0 < k {
+        k -= 1;
+        v = v * 256 + byte_at(s, at, k);
+    }
+    v
+}
+
+pub fn u16_of(s: &[u8], at: usize) -> u64
+    ensures { λ r. ⌜ Number 2 (now (s .entry)) at r ⌝ }
+{
+    number(s, at, 2)
+}
+
+pub fn u32_of(s: &[u8], at: usize) -> u64
+    ensures { λ r. ⌜ Number 4 (now (s .entry)) at r ⌝ }
+{
+    number(s, at, 4)
+}
+
+pub fn u64_of(s: &[u8], at: usize) -> u64
+    ensures { λ r. ⌜ Number 8 (now (s .entry)) at r ⌝ }
+{
+    number(s, at, 8)
+}
+
+// The field of w bytes from at on.
+fn field_at(s: &[u8], at: usize, w: usize) -> Field
+    requires { ⌜ w ≤ 8 ⌝ }
+    ensures { λ r. ⌜ FieldOf w (now (s .entry)) at r ⌝ }
+{
+    let n = s.len();
+    if w <= n {
+        if at <= n - w {
+            return Field::Value(number(s, at, w));
+        }
+    }
+    Field::Absent
+}
+
+pub fn u16_at(s: &[u8], at: usize) -> Field
+    ensures { λ r. ⌜ FieldOf 2 (now (s .entry)) at r ⌝ }
+{
+    field_at(s, at, 2)
+}
+
+pub fn u32_at(s: &[u8], at: usize) -> Field
+    ensures { λ r. ⌜ FieldOf 4 (now (s .entry)) at r ⌝ }
+{
+    field_at(s, at, 4)
+}
+
+pub fn u64_at(s: &[u8], at: usize) -> Field
+    ensures { λ r. ⌜ FieldOf 8 (now (s .entry)) at r ⌝ }
+{
+    field_at(s, at, 8)
+}
+
+// The part of s from start on, len bytes long; shorter where s ends before.
+pub fn part_of(s: &[u8], start: usize, len: usize) -> &[u8]
+    ensures { λ r. ⌜ now r ≡ take len (drop start (now (s .entry))) ⌝ }
+{
+    let n = s.len();
+    if n <= start {
+        return &s[n..n];
+    }
+    if n - start <= len {
+        return &s[start..n];
+    }
+    let end = start + len;
+    &s[start..end]
+}
+
+pub fn stored_checksum(object: &[u8]) -> u64
+    ensures { λ r. ⌜ r ≡ storedChecksum (now (object .entry)) ⌝ }
+{
+    u64_of(object, 0)
+}
+
+pub fn xid(object: &[u8]) -> u64
+    ensures { λ r. ⌜ r ≡ xidOf (now (object .entry)) ⌝ }
+{
+    u64_of(object, 16)
+}
+
+pub fn kind(object: &[u8]) -> u64
+    ensures { λ r. ⌜ r ≡ kindOf (now (object .entry)) ⌝ }
+{
+    u32_of(object, 24) % 65536
+}
+
+// Bit i of a bitmap, the lowest bit of a byte first; bits past the end are 0.
+pub fn bit_at(bitmap: &[u8], i: u64) -> bool
+    ensures { λ r. ⌜ r ≡ bitAt (now (bitmap .entry)) i ⌝ }
+{
+    let j = (i / 8) as usize;
+    if bitmap.len() <= j {
+        return false;
+    }
+    let k = (i % 8) as u8;
+    let b = bitmap[j];
+    b >> k & 1 == 1
 }

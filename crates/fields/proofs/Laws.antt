@@ -1,0 +1,100 @@
+-- The laws of a field's number, over its width.
+use mathlib.Core.Path.{_≡_, refl, sym, ap, _∙_}
+use mathlib.Core.Bool.{false}
+use mathlib.Core.List.{List, [], _∷_}
+use Prim.Native.Nat.{ℕ, zero, suc, _+_, _-_, _*_, _/_, _%_, _^_, _≤_, _<_}
+use native.Mathlib.Nat.{lt-of-lt-of-le, le-of-suc-le-suc, not-suc-le-zero, zero-div}
+use native.Mathlib.Omega.{arith}
+use lib.Dec.{eqb}
+use lib.ListN.{length, getD, take, drop, length-drop}
+use lib.Seq.{drop-nil, take-nil, take-all}
+use lib.Pow.{pow-add, pow-mono}
+use borrow.Author.Tests.{le-leb, lt-leb}
+use Rattle.fields.specs.Fields.{Number, FieldOf, le, num, fieldAt, bitAt}
+use Rattle.fields.specs.declared.Field.the-variants.{Value, Absent}
+
+num-nil : (w off : ℕ) → num w [] off ≡ 0
+unfolding num le
+num-nil w off = rw (drop-nil, take-nil)
+
+pub num-none : (b : List ℕ) (off : ℕ) → num 0 b off ≡ 0
+unfolding num le
+num-none b off = refl
+
+-- one byte more, below the others
+num-step : (w : ℕ) (b : List ℕ) (off : ℕ) → num (suc w) b off ≡ num w b (suc off) * 256 + getD b off 0
+unfolding num le
+num-step w [] off = rw (num-nil (suc w) off, num-nil w (suc off)) refl
+num-step w (x ∷ b) zero = omega arith
+num-step w (x ∷ b) (suc off) = num-step w b off
+
+pub num-more : (b : List ℕ) (off w k : ℕ) → 0 < k → k ≤ w → num (w - (k - 1)) b (off + (k - 1)) ≡ num (w - k) b (off + k) * 256 + getD b (off + (k - 1)) 0
+num-more b off w k h l = rw e (num-step (w - k) b (off + (k - 1)) ∙ rw p refl)
+  where
+    e : w - (k - 1) ≡ suc (w - k)
+    e = omega arith
+
+    p : suc (off + (k - 1)) ≡ off + k
+    p = omega arith
+
+-- w bytes hold a number below 2 ^ (8 w)
+pub num-fits : (b : List ℕ) → ((i : ℕ) → getD b i 0 < 256) → (w off : ℕ) → num w b off < 2 ^ (8 * w)
+num-fits b small zero off = omega (arith, num-none b off)
+num-fits b small (suc w) off = rw (e, pow-add 2 (8 * w) 8, num-step w b off) (omega (arith, num-fits b small w (suc off), small off))
+  where
+    e : 8 * suc w ≡ 8 * w + 8
+    e = omega arith
+
+-- a turn of the reader's loop finds at most seven bytes read
+pub num-room : (b : List ℕ) → ((i : ℕ) → getD b i 0 < 256) → (w k off : ℕ) → w ≤ 8 → 0 < k → num (w - k) b off < 2 ^ 56
+num-room b small w k off h l = lt-of-lt-of-le (num-fits b small (w - k) off) (pow-mono {j = 56} (omega arith))
+
+pub field-there : (w : ℕ) (b : List ℕ) (off : ℕ) → off + w ≤ length b → fieldAt w b off ≡ Value (num w b off)
+unfolding fieldAt
+field-there w b off h = simp (le-leb _ _ h)
+
+pub field-absent : (w : ℕ) (b : List ℕ) (off : ℕ) → length b < off + w → fieldAt w b off ≡ Absent
+unfolding fieldAt
+field-absent w b off h = simp (lt-leb _ _ h)
+
+-- no byte past the end
+pub past-end : (b : List ℕ) (i : ℕ) → length b ≤ i → getD b i 0 ≡ 0
+past-end [] i h = refl
+past-end (x ∷ b) zero h = absurd (not-suc-le-zero h)
+past-end (x ∷ b) (suc i) h = past-end b i (le-of-suc-le-suc h)
+
+pub bit-past : (b : List ℕ) (i : ℕ) → length b ≤ i / 8 → bitAt b i ≡ false
+unfolding bitAt
+bit-past b i h = rw (past-end b (i / 8) h) (zero-bit (2 ^ (i % 8)))
+  where
+    zero-bit : (d : ℕ) → eqb (0 / d % 2) 1 ≡ false
+    zero-bit d = rw zero-div refl
+
+-- parts that reach the end
+
+drop-past : (b : List ℕ) (k : ℕ) → length b ≤ k → drop k b ≡ []
+drop-past [] k h = drop-nil k
+drop-past (x ∷ b) zero h = absurd (not-suc-le-zero h)
+drop-past (x ∷ b) (suc k) h = drop-past b k (le-of-suc-le-suc h)
+
+-- whatever stands before the end, from either start past it
+pub part-past : (b : List ℕ) (m n k len : ℕ) → length b ≤ n → length b ≤ k → take m (drop n b) ≡ take len (drop k b)
+part-past b m n k len p q = rw (drop-past b n p, drop-past b k q, take-nil, take-nil) refl
+
+-- two lengths that both reach the end
+pub part-rest : (b : List ℕ) (start m len : ℕ) → length b - start ≤ m → length b - start ≤ len → take m (drop start b) ≡ take len (drop start b)
+part-rest b start m len p q = take-all m (drop start b) (rw length-drop p) ∙ sym (take-all len (drop start b) (rw length-drop q))
+
+-- what a reader of a field answers
+
+pub value-of : (w : ℕ) (b : List ℕ) (off r : ℕ) → Number w b off r → off + w ≤ length b → FieldOf w b off (Value r)
+value-of w b off r n h = record { is = ap Value (n .is) ∙ sym (field-there w b off h); fits = λ v e. same v e (n .fits) }
+  where
+    same : (v : ℕ) → Value r ≡ Value v → r < 2 ^ (8 * w) → v < 2 ^ (8 * w)
+    same v e h = let same-number : r ≡ v = cc in omega arith
+
+pub absent-of : (w : ℕ) (b : List ℕ) (off : ℕ) → length b < off + w → FieldOf w b off Absent
+absent-of w b off h = record { is = sym (field-absent w b off h); fits = λ v e. nothing v e }
+  where
+    nothing : (v : ℕ) → Absent ≡ Value v → v < 2 ^ (8 * w)
+    nothing v e = let z : _≡_ {A = ℕ} 0 1 = cc in absurd (omega arith)
