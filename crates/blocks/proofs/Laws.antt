@@ -2,9 +2,17 @@
 use mathlib.Core.Path.{_≡_, refl, sym, ap, _∙_, subst}
 use mathlib.Core.Bool.{Bool, true, false}
 use mathlib.Core.List.{List, [], _∷_, _++_}
-use Prim.Native.Nat.{ℕ}
+use Prim.Native.Nat.{ℕ, _+_, _*_, _/_, _^_, _≤_, _<_}
+use native.Mathlib.Nat.{div-lt-iff-lt-mul, le-div-iff-mul-le}
+use native.Mathlib.Omega.{arith}
+use borrow.Author.Tests.{lt-ltb, le-ltb}
 use Rattle.blocks.specs.Reads.{Reads, done, refuse, read, Outcome, given, refused, run, visits, _>>=_, need}
+use Rattle.fletcher.specs.Fletcher.{verifies}
+use Rattle.blocks.specs.Blocks.{readRaw, readObject, sum}
+use Rattle.blocks.specs.declared.Address.{Address}
+use Rattle.blocks.specs.declared.Container.{Container}
 use Rattle.blocks.specs.declared.Refusal.{Refusal}
+use Rattle.blocks.specs.declared.Refusal.the-variants.{PastContainer, BadChecksum, Overflow}
 
 -- what follows an outcome
 abbrev pub andThen : {A B : Type 0} → Outcome A → (A → Outcome B) → Outcome B
@@ -48,3 +56,51 @@ need-held {A} f false r k a e = absurd (subst isRefused e tt)
     isRefused : Outcome A → Type 0
     isRefused (given a) = ⊥
     isRefused (refused r) = Unit {0}
+
+-- the steps of Blocks.antt, by the way that their test goes
+
+pub sum-fits : (f : ℕ → List ℕ) (a b : ℕ) → a + b < 2 ^ 64 → run f (sum a b) ≡ given (a + b)
+unfolding run sum need _>>=_
+sum-fits f a b h = simp (lt-ltb _ _ h)
+
+pub sum-passes : (f : ℕ → List ℕ) (a b : ℕ) → 2 ^ 64 ≤ a + b → run f (sum a b) ≡ refused Overflow
+unfolding run sum need _>>=_
+sum-passes f a b h = simp (le-ltb _ _ h)
+
+pub raw-there : (f : ℕ → List ℕ) (c : Container) (a : Address) → a .0 < c .count → run f (readRaw c a) ≡ given (f (a .0))
+unfolding run readRaw need _>>=_
+raw-there f c a h = simp (lt-ltb _ _ h)
+
+pub raw-past : (f : ℕ → List ℕ) (c : Container) (a : Address) → c .count ≤ a .0 → run f (readRaw c a) ≡ refused PastContainer
+unfolding run readRaw need _>>=_
+raw-past f c a h = simp (le-ltb _ _ h)
+
+-- a block number whose block would begin past the image's end
+pub begins-past : (len size n : ℕ) → 0 < size → len / size < n → len ≤ n * size
+begins-past len size n h k = omega (arith, div-lt-iff-lt-mul h .0 k)
+
+pub begins-inside : (len size n : ℕ) → 0 < size → n ≤ len / size → n * size ≤ len
+begins-inside len size n h k = le-div-iff-mul-le h .0 k
+
+module _ (f : ℕ → List ℕ) (c : Container) (a : Address) where
+  pub object-zero : a .0 ≡ 0 → run f (readObject c a) ≡ refused PastContainer
+  unfolding run readObject need _>>=_
+  object-zero e = rw e refl
+
+  pub object-past : 0 < a .0 → c .count ≤ a .0 → run f (readObject c a) ≡ refused PastContainer
+  unfolding run readObject need _>>=_
+  object-past h k = simp (lt-ltb _ _ h, le-ltb _ _ k)
+
+  module _ (h : 0 < a .0) (k : a .0 < c .count) where
+    -- what is left, once the address is
+    object-read : run f (readObject c a) ≡ run f (need (verifies (f (a .0))) BadChecksum >>= λ _. done (f (a .0)))
+    unfolding run readObject need _>>=_
+    object-read = simp (lt-ltb _ _ h, lt-ltb _ _ k)
+
+    pub object-there : verifies (f (a .0)) ≡ true → run f (readObject c a) ≡ given (f (a .0))
+    unfolding run need _>>=_
+    object-there e = object-read ∙ rw e refl
+
+    pub object-bad : verifies (f (a .0)) ≡ false → run f (readObject c a) ≡ refused BadChecksum
+    unfolding run need _>>=_
+    object-bad e = object-read ∙ rw e refl

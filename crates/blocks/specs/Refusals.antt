@@ -3,7 +3,7 @@ use Prim.Native.Nat.{ℕ}
 use Rattle.blocks.specs.declared.Refusal.{Refusal}
 use Rattle.blocks.specs.declared.Refusal.the-variants.{ShortImage, NoMagic, BlockSize, BlockCount, MissingBlocks, ShortMap, DescriptorLength, DescriptorArea, NoCheckpoint, Incompatible, CountDiffers, PastContainer, BadChecksum, WrongKind, BadNode, Unmapped, OutsideBytes, WrongLevel, AddressBlocks, BadBitmap, Overflow, TooManyNodes}
 
-unfoldable pub numberOf : Refusal → ℕ
+abbrev pub numberOf : Refusal → ℕ
 numberOf ShortImage = 1
 numberOf NoMagic = 2
 numberOf BlockSize = 3

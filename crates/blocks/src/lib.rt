@@ -1,5 +1,13 @@
 // What a pass is made of: refusals, object ids and block addresses, and reads of a container's blocks (dev.rs, nx.rs `Reader`).
 
+ghost use mathlib.Core.Path.{_≡_};
+ghost use mathlib.Core.List.{List};
+ghost use Prim.Native.Nat.{ℕ};
+ghost use Rattle.blocks.specs.Refusals.{numberOf};
+ghost use Rattle.blocks.specs.Reads.{run};
+ghost use Rattle.blocks.specs.Blocks.{blockOf, readRaw, readObject, sum};
+ghost use Rattle.blocks.specs.Answers.{seenOf, addedOf};
+
 // Why a pass gives no report, in checking order: specs/Refusals.antt has the number of each.
 pub enum Refusal {
     ShortImage,
@@ -36,4 +44,101 @@ pub struct Container {
     pub size: u64,
     pub count: u64,
     pub xid: u64,
+}
+
+// The paper's number of a refusal.
+pub fn number_of(r: Refusal) -> u8
+    ensures { λ n. ⌜ n ≡ numberOf r ⌝ }
+{
+    match r {
+        Refusal::ShortImage => 1,
+        Refusal::NoMagic => 2,
+        Refusal::BlockSize => 3,
+        Refusal::BlockCount => 4,
+        Refusal::MissingBlocks => 5,
+        Refusal::ShortMap => 6,
+        Refusal::DescriptorLength => 7,
+        Refusal::DescriptorArea => 8,
+        Refusal::NoCheckpoint => 9,
+        Refusal::Incompatible => 10,
+        Refusal::CountDiffers => 11,
+        Refusal::PastContainer => 12,
+        Refusal::BadChecksum => 13,
+        Refusal::WrongKind => 14,
+        Refusal::BadNode => 15,
+        Refusal::Unmapped => 16,
+        Refusal::OutsideBytes => 17,
+        Refusal::WrongLevel => 18,
+        Refusal::AddressBlocks => 19,
+        Refusal::BadBitmap => 20,
+        Refusal::Overflow => 21,
+        Refusal::TooManyNodes => 22,
+    }
+}
+
+// Block n of an image; shorter, or empty, where the image ends before.
+pub fn block(image: &[u8], size: u64, n: u64) -> &[u8]
+    ensures { λ r. ⌜ now r ≡ blockOf (now (image .entry)) size n ⌝ }
+{
+    let len = image.len();
+    if size == 0 {
+        return fields::part_of(image, len, 0);
+    }
+    if len as u64 / size < n {
+        return fields::part_of(image, len, 0);
+    }
+    let start = n * size;
+    fields::part_of(image, start as usize, size as usize)
+}
+
+// Whether a block may be read: what is read is `block`.
+pub enum Seen {
+    There,
+    Refused(Refusal),
+}
+
+// A block as it is.
+pub fn raw_block(container: Container, a: Address) -> Seen
+    ensures { λ r. ⌜ ((f : ℕ → List ℕ) → r ≡ seenOf (run f (readRaw container a))) ⌝ }
+{
+    if a.0 < container.count {
+        Seen::There
+    } else {
+        Seen::Refused(Refusal::PastContainer)
+    }
+}
+
+// An object that must verify.
+pub fn object_block(image: &[u8], container: Container, a: Address) -> Seen
+    ensures { λ r. ⌜ r ≡ seenOf (run (blockOf (now (image .entry)) (container .size)) (readObject container a)) ⌝ }
+{
+    let n = a.0;
+    if n == 0 {
+        return Seen::Refused(Refusal::PastContainer);
+    }
+    if container.count <= n {
+        return Seen::Refused(Refusal::PastContainer);
+    }
+    let object = block(image, container.size, n);
+    if fletcher::verify(object) {
+        Seen::There
+    } else {
+        Seen::Refused(Refusal::BadChecksum)
+    }
+}
+
+pub enum Added {
+    To(u64),
+    Refused(Refusal),
+}
+
+// A sum that must stay below 2^64.
+pub fn add(a: u64, b: u64) -> Added
+    ensures { λ r. ⌜ ((f : ℕ → List ℕ) → r ≡ addedOf (run f (sum a b))) ⌝ }
+{
+    if 18446744073709551615 - a < b {
+        Added::Refused(Refusal::Overflow)
+    } else {
+        Added::To(a + b)
+    }
 }

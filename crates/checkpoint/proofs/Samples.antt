@@ -53,5 +53,5 @@ table =
     ∷ []
 
 samples : T (every table)
-unfolding table le num run _>>=_ need numberOf sizeAllowed geometry admit blockFrom
+unfolding table le num run _>>=_ need sizeAllowed geometry admit blockFrom
 samples = tt

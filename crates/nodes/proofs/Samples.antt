@@ -70,5 +70,5 @@ table =
     ∷ []
 
 samples : T (every table)
-unfolding table le num fieldAt seal fletcher checksum verifies run _>>=_ need readObject present field part numberOf valueEnd parse readNode fixedSlot variableSlot slot valueOf entry pointer childrenFrom each walkBelow walk index leaf
+unfolding table le num fieldAt seal fletcher checksum verifies run _>>=_ need readObject present field part valueEnd parse readNode fixedSlot variableSlot slot valueOf entry pointer childrenFrom each walkBelow walk index leaf
 samples = tt

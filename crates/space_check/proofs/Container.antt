@@ -128,14 +128,14 @@ unfolding blockFrom
 image [] = []
 image (b ∷ bs) = blockFrom blockBytes 0 b (image bs)
 
--- the listing's
-unfoldable pub listing : List ℕ
+-- the listing's, with the checksums of its map block and of its manager as given
+unfoldable pub sealedWith : ℕ → ℕ → List ℕ
 unfolding image superblock checkpointMap manager chunkInfo chunkBitmap objectMap emptyRoot
-listing =
+sealedWith mapChecksum managerChecksum =
     image (superblock 2 0x3b15f96a02969a1c 7 0
-    ∷ checkpointMap 2 0x804fb5fcbfb035d5 7
+    ∷ checkpointMap 2 mapChecksum 7
     ∷ superblock 2 0x3b15f96a02969a1c 7 0
-    ∷ manager 2 0x5aac5e7fa53cb0
+    ∷ manager 2 managerChecksum
     ∷ []
     ∷ (row 0 1 3 ∷ [])
     ∷ chunkInfo 2
@@ -149,6 +149,16 @@ listing =
     ∷ []
     ∷ []
     ∷ [])
+
+abbrev pub mapChecksum : ℕ
+mapChecksum = 0x804fb5fcbfb035d5
+
+abbrev pub managerChecksum : ℕ
+managerChecksum = 0x5aac5e7fa53cb0
+
+unfoldable pub listing : List ℕ
+unfolding sealedWith
+listing = sealedWith mapChecksum managerChecksum
 
 -- with two free blocks in the descriptor area
 unfoldable pub roomy : List ℕ

@@ -1,13 +1,14 @@
 -- The container of document 01's listing, through the whole check: the report that the listing prints, and the block map.
 use mathlib.Core.Path.{_≡_, refl}
-use mathlib.Core.List.{List, [], _∷_}
+use mathlib.Core.List.{List, [], _∷_, _++_}
 use Prim.Native.Nat.{ℕ}
 use lib.ListN.{replicate}
+use Rattle.blocks.specs.declared.Refusal.the-variants.{NoCheckpoint, BadChecksum}
 use Rattle.space_check.specs.Check.{check, consistent}
-use Rattle.space_check.specs.Report.{noProblems, noOverlaps, kinds, reported}
+use Rattle.space_check.specs.Report.{noProblems, noOverlaps, kinds, refusal, reported}
 use Rattle.space_check.specs.declared.Report.{Report}
 use Rattle.space_check.proofs.Computing.{computed}
-use Rattle.space_check.proofs.Container.{listing}
+use Rattle.space_check.proofs.Container.{sealedWith, mapChecksum, managerChecksum, listing}
 
 -- "2 blocks in use, 0 marked but unused, 0 problems"; "6 blocks free; .. wrong free count: 0; device free count 6"; "consistent"
 abbrev pub listed : Report
@@ -34,3 +35,13 @@ listedMap = 17 ∷ 18 ∷ 18 ∷ 19 ∷ 19 ∷ 21 ∷ 52 ∷ 52 ∷ 22 ∷ 23 �
 pub listing-checked : check listing (replicate 17 255) ≡ record { answer = reported listed; map = listedMap }
 unfolding computed listing
 listing-checked = refl
+
+-- where its map block's checksum fails no superblock loads: refusal 9, and the block map is untouched
+pub early-refusal : check (sealedWith 0 managerChecksum) (replicate 17 255) ≡ record { answer = refusal NoCheckpoint; map = replicate 17 255 }
+unfolding computed sealedWith
+early-refusal = refl
+
+-- where its manager's fails: refusal 13, and one byte is zeroed for each block, none past the count
+pub late-refusal : check (sealedWith mapChecksum 0) (replicate 17 255) ≡ record { answer = refusal BadChecksum; map = replicate 16 0 ++ (255 ∷ []) }
+unfolding computed sealedWith
+late-refusal = refl
