@@ -17,7 +17,7 @@ use Rattle.checkpoint.specs.Superblock.{sound}
 use Rattle.checkpoint.specs.declared.Geometry.{Geometry}
 use Rattle.checkpoint.specs.declared.Mapping.{Mapping}
 use Rattle.space_check.specs.Check.{check}
-use Rattle.space_check.specs.Report.{endingNumber}
+use Rattle.report.specs.Report.{endingNumber}
 use Rattle.space_check.proofs.Computing.{computed}
 use Rattle.space_check.proofs.Container.{blockBytes, managerId, managerBlock, superblock, checkpointMap, roomy}
 use Rattle.commit.specs.Stores.{Store, CutOf, touched, touchedFrom, blockTouched, overwrite, finished}

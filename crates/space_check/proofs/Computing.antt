@@ -16,12 +16,12 @@ use Rattle.checkpoint.specs.Superblock.{sound}
 use Rattle.manager.specs.Chunks.{chunkAt, chunksFrom}
 use Rattle.manager.specs.Manager.{managerFrom, managerAt, managerBy, manager, listFrom}
 use Rattle.space_check.specs.Audit.{unless, enter, markFrom, tally, auditBitmap, auditChunk, auditChunks, auditInfo, auditInfos, auditQueuedFrom, auditQueued}
-use Rattle.space_check.specs.BlockMap.{update, usedAt, cleared, countIn, firstIn}
+use Rattle.block_map.specs.BlockMap.{update, usedAt, cleared, countIn, firstIn}
 use Rattle.space_check.specs.Check.{Result, audit, claimAreas, claimObjects, claims, isLost, lostOf, lostFrom, lostIn, isLeaked, verdictOf, reportOf, body, rest, pass, settle, checkIn, check}
 use Rattle.space_check.specs.Claims.{claimBlock, claimFrom, claim, claimNode, claimMapped, claimMapping, claimQueued}
 use Rattle.space_check.specs.Pool.{bitmapsFrom, loadPool, poolMarked, unusedFrom}
 use Rattle.space_check.specs.Queue.{runCount, runOf, nodeBy, scanQueue, queue}
-use Rattle.space_check.specs.Report.{noProblems, noOverlaps, note, addProblem, addOverlap, zeroReport, refusal, reported, endingNumber}
+use Rattle.report.specs.Report.{noProblems, noOverlaps, note, addProblem, addOverlap, zeroReport, refusal, reported, endingNumber}
 
 unfoldable pub computed : List ℕ → List ℕ → Result
 unfolding le num fieldAt bitAt seal fletcher checksum verifies blockOf readRaw readObject present field part sum run _>>=_ need valueEnd parse readNode describe fixedSlot variableSlot slot valueOf entry pointer readObjectMap describeMap loadObjectMap leafFrom lookAt indexFrom scanNode below scan childrenFrom each walkBelow walk areaFrom isAfter isAhead bestFrom loaded try tryFrom takeSuperblock admit sizeAllowed geometry mappingsFrom belongsTo chainAddress chainFrom chain lookup sound chunkAt chunksFrom managerFrom managerAt managerBy manager listFrom unless enter markFrom tally auditBitmap auditChunk auditChunks auditInfo auditInfos auditQueuedFrom auditQueued update usedAt cleared countIn firstIn audit claimAreas claimObjects claims isLost lostOf lostFrom lostIn isLeaked verdictOf reportOf body rest pass settle checkIn check claimBlock claimFrom claim claimNode claimMapped claimMapping claimQueued bitmapsFrom loadPool poolMarked unusedFrom runCount runOf nodeBy scanQueue queue noProblems noOverlaps note addProblem addOverlap zeroReport refusal reported endingNumber

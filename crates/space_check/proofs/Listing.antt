@@ -5,8 +5,8 @@ use Prim.Native.Nat.{ℕ}
 use lib.ListN.{replicate}
 use Rattle.blocks.specs.declared.Refusal.the-variants.{NoCheckpoint, BadChecksum}
 use Rattle.space_check.specs.Check.{check, consistent}
-use Rattle.space_check.specs.Report.{noProblems, noOverlaps, kinds, refusal, reported}
-use Rattle.space_check.specs.declared.Report.{Report}
+use Rattle.report.specs.Report.{noProblems, noOverlaps, kinds, refusal, reported}
+use Rattle.report.specs.declared.Report.{Report}
 use Rattle.space_check.proofs.Computing.{computed}
 use Rattle.space_check.proofs.Container.{sealedWith, mapChecksum, managerChecksum, listing}
 

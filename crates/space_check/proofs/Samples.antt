@@ -16,14 +16,14 @@ use Rattle.nodes.specs.Scan.{scan}
 use Rattle.nodes.specs.declared.Description.{Description}
 use Rattle.manager.specs.Chunks.{chunksOf}
 use Rattle.manager.specs.declared.Chunk.{Chunk}
-use Rattle.space_check.specs.BlockMap.{Marked, ownerOf, countIn}
-use Rattle.space_check.specs.Report.{noProblems, noOverlaps, endingNumber}
+use Rattle.block_map.specs.BlockMap.{Marked, ownerOf, countIn}
+use Rattle.report.specs.Report.{noProblems, noOverlaps, endingNumber}
 use Rattle.space_check.specs.Pool.{Pool, poolMarked}
 use Rattle.space_check.specs.Audit.{auditChunk, auditQueued}
 use Rattle.space_check.specs.Claims.{claim, claimQueued}
 use Rattle.space_check.specs.Check.{check}
 use Rattle.space_check.specs.declared.Audit.{Audit}
-use Rattle.space_check.specs.declared.OverlapLog.{OverlapLog}
+use Rattle.report.specs.declared.OverlapLog.{OverlapLog}
 use Rattle.space_check.proofs.Computing.{computed}
 
 -- the paper's number of an outcome: 0 where it gives something

@@ -13,8 +13,8 @@ use Rattle.blocks.specs.declared.Refusal.the-variants.{BadBitmap, Overflow}
 use Rattle.nodes.specs.Node.{Entry}
 use Rattle.manager.specs.Chunks.{chunksOf}
 use Rattle.manager.specs.declared.Chunk.{Chunk}
-use Rattle.space_check.specs.BlockMap.{Marked, update, usedAt, marked, used}
-use Rattle.space_check.specs.Report.{addProblem}
+use Rattle.block_map.specs.BlockMap.{Marked, update, usedAt, marked, used}
+use Rattle.report.specs.Report.{addProblem}
 use Rattle.space_check.specs.Pool.{Pool, poolMarked}
 use Rattle.space_check.specs.Queue.{Run, runOf}
 use Rattle.space_check.specs.declared.Audit.{Audit}

@@ -19,17 +19,17 @@ use Rattle.checkpoint.specs.Geometry.{geometry, leastSize}
 use Rattle.checkpoint.specs.Checkpoint.{Taken, takeSuperblock, admit}
 use Rattle.checkpoint.specs.declared.Geometry.{Geometry}
 use Rattle.manager.specs.Manager.{manager, chunkInfos, deviceFree, poolBase, poolBlocks, poolRingBase, poolRingBlocks, poolQueue, mainQueue}
-use Rattle.space_check.specs.BlockMap.{Marked, ownerOf, isMarked, isUsed, cleared, countIn, firstIn}
-use Rattle.space_check.specs.Report.{noProblems, noOverlaps, kinds, refusal, reported}
+use Rattle.block_map.specs.BlockMap.{Marked, ownerOf, isMarked, isUsed, cleared, countIn, firstIn}
+use Rattle.report.specs.Report.{noProblems, noOverlaps, kinds, refusal, reported}
 use Rattle.space_check.specs.Pool.{Pool, loadPool, unusedFrom}
 use Rattle.space_check.specs.Queue.{queue}
 use Rattle.space_check.specs.Audit.{auditInfos, auditQueued}
 use Rattle.space_check.specs.Claims.{unowned, containerSuperblock, descriptorArea, dataArea, internalPool, poolBitmapRing, objectMap, claim, claimNode, claimMapping, claimQueued}
-use Rattle.space_check.specs.declared.Answer.{Answer}
+use Rattle.report.specs.declared.Answer.{Answer}
 use Rattle.space_check.specs.declared.Audit.{Audit}
-use Rattle.space_check.specs.declared.Lost.{Lost}
-use Rattle.space_check.specs.declared.OverlapLog.{OverlapLog}
-use Rattle.space_check.specs.declared.Report.{Report}
+use Rattle.report.specs.declared.Lost.{Lost}
+use Rattle.report.specs.declared.OverlapLog.{OverlapLog}
+use Rattle.report.specs.declared.Report.{Report}
 
 -- chunk-info blocks in the order of their list; "Then the pool queue (0)"
 unfoldable pub audit : Container → Taken → List ℕ → Pool → List ℕ → Reads (Marked Audit)

@@ -11,10 +11,10 @@ use Rattle.blocks.specs.Blocks.{field, sum}
 use Rattle.blocks.specs.declared.Address.{Address}
 use Rattle.blocks.specs.declared.Container.{Container}
 use Rattle.nodes.specs.Node.{Entry}
-use Rattle.space_check.specs.BlockMap.{Marked, update, ownerOf, ownedBy}
-use Rattle.space_check.specs.Report.{addOverlap}
+use Rattle.block_map.specs.BlockMap.{Marked, update, ownerOf, ownedBy}
+use Rattle.report.specs.Report.{addOverlap}
 use Rattle.space_check.specs.Queue.{Run, runOf}
-use Rattle.space_check.specs.declared.OverlapLog.{OverlapLog}
+use Rattle.report.specs.declared.OverlapLog.{OverlapLog}
 
 -- "Claims, in order, with kind numbers"; 0 is no owner
 abbrev pub unowned : ℕ

@@ -1,6 +1,4 @@
--- The pass: block map, logs, audit of the pool, claims, report.
-pub mod BlockMap
-pub mod Report
+-- The pass: the pool and its audit, the queues, the claims, the whole.
 pub mod Pool
 pub mod Queue
 pub mod Audit

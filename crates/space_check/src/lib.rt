@@ -1,40 +1,7 @@
-// The space check of a container (dump.rs, `space_check_container`): what it reports.
-use blocks::Refusal;
-
-// How many problems and overlaps a report names.
-const LOGGED: usize = 10;
-// How many kinds of claimants there are: specs/Claims.antt names them.
-const KINDS: usize = 9;
-
-// Something wrong with a block of the internal pool: specs/Audit.antt names the kinds.
-pub struct Problem {
-    pub kind: u8,
-    pub block: u64,
-}
-
-// All problems counted, and the first ones.
-pub struct ProblemLog {
-    pub total: u64,
-    pub first: [Problem; LOGGED],
-}
-
-// A block that one kind owns and a later one claimed.
-pub struct Overlap {
-    pub block: u64,
-    pub owner: u8,
-    pub claimant: u8,
-}
-
-pub struct OverlapLog {
-    pub total: u64,
-    pub first: [Overlap; LOGGED],
-}
-
-// Blocks that a kind owns and no bitmap marks, and the lowest of them.
-pub struct Lost {
-    pub count: u64,
-    pub first: u64,
-}
+// The space check of a container (dump.rs, `space_check_container`).
+use report::ProblemLog;
+ghost use mathlib.Core.Path.{_≡_};
+ghost use Rattle.space_check.specs.Pool.{poolIndex};
 
 // What the audit of the bitmaps has counted.
 pub struct Audit {
@@ -43,28 +10,9 @@ pub struct Audit {
     pub wrong: u64,
 }
 
-// What a pass finds. Unfilled places are 0.
-pub struct Report {
-    pub xid: u64,
-    pub pool_used: u64,
-    pub pool_unused: u64,
-    pub problems: ProblemLog,
-    pub free: u64,
-    pub wrong_chunks: u64,
-    pub device_free: u64,
-    pub overlaps: OverlapLog,
-    pub lost: [Lost; KINDS],
-    pub leaked: u64,
-    pub verdict: u8,
-}
-
-pub enum Ending {
-    Reported,
-    Refused(Refusal),
-}
-
-// How a pass ended, and its report: all zero where it was refused.
-pub struct Answer {
-    pub ending: Ending,
-    pub report: Report,
+// The place of block a in the pool: blocks below its base wrap, and fall outside.
+pub fn pool_index(a: u64, base: u64) -> u64
+    ensures { λ r. ⌜ r ≡ poolIndex a base ⌝ }
+{
+    std::num::wrapping_sub_u64(a, base)
 }

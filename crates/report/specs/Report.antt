@@ -8,15 +8,15 @@ use Rattle.blocks.specs.Reads.{Reads, done, _>>=_}
 use Rattle.blocks.specs.Blocks.{sum}
 use Rattle.blocks.specs.Refusals.{numberOf}
 use Rattle.blocks.specs.declared.Refusal.{Refusal}
-use Rattle.space_check.specs.declared.Problem.{Problem}
-use Rattle.space_check.specs.declared.ProblemLog.{ProblemLog}
-use Rattle.space_check.specs.declared.Overlap.{Overlap}
-use Rattle.space_check.specs.declared.OverlapLog.{OverlapLog}
-use Rattle.space_check.specs.declared.Lost.{Lost}
-use Rattle.space_check.specs.declared.Report.{Report}
-use Rattle.space_check.specs.declared.Answer.{Answer}
-use Rattle.space_check.specs.declared.Ending.{Ending}
-use Rattle.space_check.specs.declared.Ending.the-variants.{Reported, Refused}
+use Rattle.report.specs.declared.Problem.{Problem}
+use Rattle.report.specs.declared.ProblemLog.{ProblemLog}
+use Rattle.report.specs.declared.Overlap.{Overlap}
+use Rattle.report.specs.declared.OverlapLog.{OverlapLog}
+use Rattle.report.specs.declared.Lost.{Lost}
+use Rattle.report.specs.declared.Report.{Report}
+use Rattle.report.specs.declared.Answer.{Answer}
+use Rattle.report.specs.declared.Ending.{Ending}
+use Rattle.report.specs.declared.Ending.the-variants.{Reported, Refused}
 
 -- "the first ten"
 abbrev pub logged : ℕ

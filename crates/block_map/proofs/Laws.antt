@@ -1,0 +1,34 @@
+-- Laws of the block map's bytes.
+use mathlib.Core.List.{List, [], _∷_}
+use mathlib.Core.Path.{_≡_, refl, sym, ap, _∙_}
+use Prim.Native.Nat.{ℕ, zero, suc, _+_, _-_, _/_, _^_}
+use native.Mathlib.Nat.{add-comm}
+use native.Mathlib.Omega.{arith}
+use lib.Bits.{bitAnd, bitOr, or-add-and, and-high, and-mask}
+use lib.Dec.{eqb}
+use lib.ListN.{getD, set}
+use lib.Pow.{split, high-ones, mod-pow-add}
+use Rattle.fields.specs.Fields.{bit}
+use Rattle.block_map.specs.BlockMap.{withBit, update}
+
+-- bit k read by a shift
+pub bit-read : (k x : ℕ) → eqb (bitAnd (x / 2 ^ k) 1) 1 ≡ bit k x
+bit-read k x = rw (and-mask (x / 2 ^ k) 1)
+
+-- bit k set by an or
+pub bit-set : (k x : ℕ) → bitOr x (2 ^ k) ≡ withBit k x
+bit-set k x = rw (add-comm k 1) (omega (arith, or-add-and x (2 ^ k), sym (ap (bitAnd x) one) ∙ and-high x 1 k, split x (1 + k), mod-pow-add x 1 k))
+  where
+    one : 2 ^ (1 + k) - 2 ^ k ≡ 2 ^ k
+    one = omega (arith, high-ones 1 k)
+
+-- a byte changed is a byte read and written back; past the map's end there is none
+pub update-set : (f : ℕ → ℕ) (a : ℕ) (map : List ℕ) → update f a map ≡ set map a (f (getD map a 0))
+unfolding update
+update-set f a [] = refl
+update-set f zero (x ∷ map) = refl
+update-set f (suc a) (x ∷ map) = ap (λ (l : List ℕ). x ∷ l) (update-set f a map)
+
+-- from what a write, a change and a read ensure
+pub updated : (f : ℕ → ℕ) (a : ℕ) (map after : List ℕ) (x y : ℕ) → after ≡ set map a y → y ≡ f x → x ≡ getD map a 0 → after ≡ update f a map
+updated f a map after x y p q r = p ∙ rw (q, r) (sym (update-set f a map))

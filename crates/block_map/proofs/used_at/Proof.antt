@@ -1,0 +1,23 @@
+use mathlib.Core.Path.{ap, _∙_}
+use borrow.Author.Needs.{needs}
+use borrow.Author.Tests.{lt-ltb, le-ltb}
+use Rattle.block_map.specs.BlockMap.{isUsed, usedAt}
+use Rattle.block_map.proofs.used_at.Statement.{statement}
+use Rattle.block_map.proofs.used_at.Tie as tie
+
+cell-requires : tie.Need-cell-requires
+cell-requires c κs = search needs
+
+is-used-requires : tie.Need-is-used-requires
+is-used-requires c κs = search needs
+
+returns : tie.Need-returns
+unfolding usedAt
+returns c = rw (lt-ltb _ _ (c .before .before .if1 .taken)) (c .is-used .ensures ∙ ap isUsed (c .before .cell .ensures))
+
+returns-2 : tie.Need-returns-2
+unfolding usedAt
+returns-2 c = rw (le-ltb _ _ (c .if1 .left))
+
+pub used-at-spec : {M : Type 1} → statement M
+used-at-spec = tie.close (tie.spec cell-requires is-used-requires returns returns-2)

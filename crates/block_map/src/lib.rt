@@ -1,0 +1,97 @@
+// The block map: a byte for each block, bits 0 to 3 its owner, bit 4 marked, bit 5 used in the pool.
+use blocks::Container;
+ghost use mathlib.Core.Path.{_≡_};
+ghost use Prim.Native.Nat.{_%_};
+ghost use lib.ListN.{getD, set};
+ghost use Rattle.block_map.specs.BlockMap.{ownerOf, isMarked, isUsed, marked, used, ownedBy, update, usedAt};
+
+pub fn owner(x: u8) -> u8
+    ensures { λ r. ⌜ r ≡ ownerOf x ⌝ }
+{
+    x & 0x0f
+}
+
+pub fn is_marked(x: u8) -> bool
+    ensures { λ r. ⌜ r ≡ isMarked x ⌝ }
+{
+    x >> 4 & 1 == 1
+}
+
+pub fn is_used(x: u8) -> bool
+    ensures { λ r. ⌜ r ≡ isUsed x ⌝ }
+{
+    x >> 5 & 1 == 1
+}
+
+pub fn with_mark(x: u8) -> u8
+    ensures { λ r. ⌜ r ≡ marked x ⌝ }
+{
+    x | 0x10
+}
+
+pub fn with_use(x: u8) -> u8
+    ensures { λ r. ⌜ r ≡ used x ⌝ }
+{
+    x | 0x20
+}
+
+// A kind is below 16; of any other number the low four bits are taken.
+pub fn with_owner(x: u8, kind: u8) -> u8
+    ensures { λ r. ⌜ r ≡ ownedBy (kind % 16) x ⌝ }
+{
+    (x & 0xf0) | (kind & 0x0f)
+}
+
+// The byte of block a; past the map's end, 0.
+pub fn cell(map: &[u8], a: u64) -> u8
+    ensures { λ r. ⌜ r ≡ getD (now (map .entry)) a 0 ⌝ }
+{
+    if a < map.len() as u64 {
+        let i = a as usize;
+        map[i]
+    } else {
+        0
+    }
+}
+
+// Past the map's end nothing changes.
+fn put(map: &mut [u8], a: u64, x: u8)
+    ensures { λ r. ⌜ now (map .exit) ≡ set (now (map .entry)) a x ⌝ }
+{
+    if a < map.len() as u64 {
+        let at = a as usize;
+        map[at] = x;
+    }
+}
+
+pub fn mark_block(map: &mut [u8], a: u64)
+    ensures { λ r. ⌜ now (map .exit) ≡ update marked a (now (map .entry)) ⌝ }
+{
+    let x = cell(map, a);
+    put(map, a, with_mark(x));
+}
+
+pub fn use_block(map: &mut [u8], a: u64)
+    ensures { λ r. ⌜ now (map .exit) ≡ update used a (now (map .entry)) ⌝ }
+{
+    let x = cell(map, a);
+    put(map, a, with_use(x));
+}
+
+pub fn own_block(map: &mut [u8], a: u64, kind: u8)
+    ensures { λ r. ⌜ now (map .exit) ≡ update (ownedBy (kind % 16)) a (now (map .entry)) ⌝ }
+{
+    let x = cell(map, a);
+    put(map, a, with_owner(x, kind));
+}
+
+// Bytes past the block count say nothing.
+pub fn used_at(map: &[u8], c: Container, a: u64) -> bool
+    ensures { λ r. ⌜ r ≡ usedAt c (now (map .entry)) a ⌝ }
+{
+    if a < c.count {
+        is_used(cell(map, a))
+    } else {
+        false
+    }
+}

@@ -1,0 +1,83 @@
+// What a pass answers: logs, the report, and how it ended.
+use blocks::Refusal;
+
+pub mod answers;
+pub mod logs;
+
+// How many problems and overlaps a report names.
+const LOGGED: usize = 10;
+// How many kinds of claimants there are.
+const KINDS: usize = 9;
+
+// Something wrong with a block of the internal pool.
+pub struct Problem {
+    pub kind: u8,
+    pub block: u64,
+}
+
+// All problems counted, and the first ones.
+pub struct ProblemLog {
+    pub total: u64,
+    pub first: [Problem; LOGGED],
+}
+
+// A block that one kind owns and a later one claimed.
+pub struct Overlap {
+    pub block: u64,
+    pub owner: u8,
+    pub claimant: u8,
+}
+
+pub struct OverlapLog {
+    pub total: u64,
+    pub first: [Overlap; LOGGED],
+}
+
+// Blocks that a kind owns and no bitmap marks, and the lowest of them.
+pub struct Lost {
+    pub count: u64,
+    pub first: u64,
+}
+
+// How a step that changes a log or a map ended.
+pub enum Step {
+    Done,
+    Refused(Refusal),
+}
+
+// A log after a step; where the step was refused, the log as it was.
+pub struct LoggedProblem {
+    pub step: Step,
+    pub log: ProblemLog,
+}
+
+pub struct LoggedOverlap {
+    pub step: Step,
+    pub log: OverlapLog,
+}
+
+// What a pass finds. Unfilled places are 0.
+pub struct Report {
+    pub xid: u64,
+    pub pool_used: u64,
+    pub pool_unused: u64,
+    pub problems: ProblemLog,
+    pub free: u64,
+    pub wrong_chunks: u64,
+    pub device_free: u64,
+    pub overlaps: OverlapLog,
+    pub lost: [Lost; KINDS],
+    pub leaked: u64,
+    pub verdict: u8,
+}
+
+pub enum Ending {
+    Reported,
+    Refused(Refusal),
+}
+
+// How a pass ended, and its report: all zero where it was refused.
+pub struct Answer {
+    pub ending: Ending,
+    pub report: Report,
+}
