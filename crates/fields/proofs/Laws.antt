@@ -79,7 +79,7 @@ drop-past (x ∷ b) (suc k) h = drop-past b k (le-of-suc-le-suc h)
 
 -- whatever stands before the end, from either start past it
 pub part-past : (b : List ℕ) (m n k len : ℕ) → length b ≤ n → length b ≤ k → take m (drop n b) ≡ take len (drop k b)
-part-past b m n k len p q = rw (drop-past b n p, drop-past b k q, take-nil, take-nil) refl
+part-past b m n k len p q = rw (drop-past b n p, drop-past b k q, take-nil m, take-nil len) refl
 
 -- two lengths that both reach the end
 pub part-rest : (b : List ℕ) (start m len : ℕ) → length b - start ≤ m → length b - start ≤ len → take m (drop start b) ≡ take len (drop start b)

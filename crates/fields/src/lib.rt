@@ -109,6 +109,14 @@ pub fn part_of(s: &[u8], start: usize, len: usize) -> &[u8]
     &s[start..end]
 }
 
+// The field of eight bytes from at on in a part of s: in a key, or a value, cut from the middle of its node.
+pub fn u64_in(s: &[u8], start: usize, len: usize, at: usize) -> Field
+    ensures { λ r. ⌜ FieldOf 8 (take len (drop start (now (s .entry)))) at r ⌝ }
+{
+    let cut = part_of(s, start, len);
+    u64_at(cut, at)
+}
+
 pub fn stored_checksum(object: &[u8]) -> u64
     ensures { λ r. ⌜ r ≡ storedChecksum (now (object .entry)) ⌝ }
 {

@@ -1,4 +1,5 @@
--- The definition computed: document 01's samples and its listing's container.
+-- Laws, and the definition computed: document 01's samples and its listing's container.
+pub mod Laws
 pub mod Computing
 pub mod Container
 pub mod Listing

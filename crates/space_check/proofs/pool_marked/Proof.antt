@@ -1,0 +1,20 @@
+use Rattle.space_check.proofs.Laws.{pool-inside, pool-outside}
+use mathlib.Core.Path.{sym, _∙_}
+use borrow.Author.Needs.{needs}
+use Rattle.space_check.proofs.pool_marked.Statement.{statement}
+use Rattle.space_check.proofs.pool_marked.Tie as tie
+
+pool-index-requires : tie.Need-pool-index-requires
+pool-index-requires c κs = search needs
+
+bit-at-requires : tie.Need-bit-at-requires
+bit-at-requires c κs = search needs
+
+returns : tie.Need-returns
+returns c = c .bit-at .ensures ∙ sym (pool-inside _ _ _ (c .before .before .pool-index .ensures) (c .before .if1 .taken))
+
+returns-2 : tie.Need-returns-2
+returns-2 c = sym (pool-outside _ _ _ (c .before .pool-index .ensures) (c .if1 .left))
+
+pub pool-marked-spec : {M : Type 1} → statement M
+pool-marked-spec = tie.close (tie.spec pool-index-requires bit-at-requires returns returns-2)
