@@ -1,0 +1,71 @@
+//! The original's space check, with what it prints caught in a buffer.
+//!
+//! `dump.rs` comes from the build directory; what it takes from its crate's root is given here instead: an error
+//! that keeps its message, no human-readable size, and `println!` as a macro that keeps the line.
+#![allow(dead_code, unused_imports, clippy::all)]
+
+use std::cell::RefCell;
+use std::collections::HashSet;
+
+macro_rules! println {
+    ($($part:tt)*) => { crate::keep_line(format!($($part)*)) };
+}
+
+include!(concat!(env!("OUT_DIR"), "/modules.rs"));
+
+/// What one run printed and handed out.
+#[derive(Default)]
+pub struct Caught {
+    pub lines: Vec<String>,
+    pub cells: Option<Cells>,
+}
+
+/// What the block map is made of, as the original holds it.
+pub struct Cells {
+    pub marked: Vec<bool>,
+    /// For each block an index into `kinds`, 0 for none.
+    pub owner: Vec<u8>,
+    pub kinds: Vec<&'static str>,
+    pub pool_used: HashSet<u64>,
+}
+
+thread_local! {
+    static CAUGHT: RefCell<Caught> = RefCell::default();
+}
+
+/// What was caught since the last call.
+pub fn take_caught() -> Caught {
+    CAUGHT.take()
+}
+
+fn keep_line(line: String) {
+    CAUGHT.with_borrow_mut(|c| c.lines.push(line));
+}
+
+fn hand_out(marked: &[bool], owner: &[u8], kinds: &[&'static str], pool_used: &HashSet<u64>) {
+    let cells =
+        Cells { marked: marked.to_vec(), owner: owner.to_vec(), kinds: kinds.to_vec(), pool_used: pool_used.clone() };
+    CAUGHT.with_borrow_mut(|c| c.cells = Some(cells));
+}
+
+pub struct CliError {
+    pub msg: String,
+}
+
+impl CliError {
+    fn new(msg: impl Into<String>) -> Self {
+        Self { msg: msg.into() }
+    }
+}
+
+impl From<apfs::Error> for CliError {
+    fn from(e: apfs::Error) -> Self {
+        Self::new(e.to_string())
+    }
+}
+
+type CliResult<T = ()> = Result<T, CliError>;
+
+fn human_size(_bytes: u64) -> String {
+    String::new()
+}

@@ -1,0 +1,134 @@
+//! Runs the original space check beside a model of its rules and, once linked, beside the proved library.
+
+mod answer;
+mod container;
+mod coverage;
+mod damage;
+mod fields;
+mod fletcher;
+mod image;
+mod judge;
+mod library;
+mod list;
+mod messages;
+mod model;
+mod nodes;
+mod oracle;
+mod places;
+mod real;
+mod recipes;
+mod refusal;
+mod rng;
+mod role;
+mod run;
+mod sample;
+mod shape;
+mod shrink;
+mod survey;
+mod text;
+mod worker;
+
+use std::ops::Range;
+use std::process::ExitCode;
+use std::{env, fs, io};
+
+use worker::{Reply, Who, Worker, LARGE};
+
+const USAGE: &str = "\
+usage: compare run --seeds A..B      images of seeds A to B - 1, the table of coverage
+       compare real [--damaged N]    containers of mkapfs, each with N damaged images
+       compare large [--damaged N]   the same over built containers with a pool of 50,000 blocks
+       compare answers               the fixed list, on standard output
+       compare answers IMAGE...      the original's answer for each image file
+       compare verify [FILE...]      replays the fixed list, or other files of its form
+exit status: 0 all agree, 1 a disagreement, 2 anything else";
+
+/// Damaged images of each large container.
+const DAMAGED: u64 = 40;
+
+const LIST: &str = concat!(env!("CARGO_MANIFEST_DIR"), "/answers/list.txt");
+
+fn main() -> ExitCode {
+    let arguments: Vec<String> = env::args().skip(1).collect();
+    let words: Vec<&str> = arguments.iter().map(String::as_str).collect();
+    match command(&words) {
+        Ok(true) => ExitCode::SUCCESS,
+        Ok(false) => ExitCode::from(1),
+        Err(e) => {
+            eprintln!("compare: {e}");
+            ExitCode::from(2)
+        }
+    }
+}
+
+/// Whether all agree.
+fn command(words: &[&str]) -> io::Result<bool> {
+    match words {
+        ["run", "--seeds", seeds] => Ok(run::run(range(seeds)?)? == 0),
+        ["real"] => Ok(real::real(DAMAGED)? == 0),
+        ["real", "--damaged", n] => Ok(real::real(number(n)?)? == 0),
+        ["large"] => Ok(real::large(DAMAGED)? == 0),
+        ["large", "--damaged", n] => Ok(real::large(number(n)?)? == 0),
+        ["answers"] => answers(),
+        ["answers", images @ ..] => originals(images),
+        ["verify"] => verify(&[LIST]),
+        ["verify", files @ ..] => verify(files),
+        ["worker"] => worker::serve().map(|()| true),
+        _ => Err(io::Error::other(USAGE)),
+    }
+}
+
+/// An error with the file that it is about.
+fn at(path: &str, error: impl std::fmt::Display) -> io::Error {
+    io::Error::other(format!("{path}: {error}"))
+}
+
+fn number(text: &str) -> io::Result<u64> {
+    text.parse().map_err(|_| io::Error::other(format!("`{text}` is no number")))
+}
+
+fn range(text: &str) -> io::Result<Range<u64>> {
+    let (from, to) = text.split_once("..").ok_or_else(|| io::Error::other(format!("`{text}` is not A..B")))?;
+    Ok(number(from)?..number(to)?)
+}
+
+fn answers() -> io::Result<bool> {
+    match sample::make()? {
+        Ok(text) => {
+            print!("{text}");
+            Ok(true)
+        }
+        Err(what) => {
+            eprintln!("{what}");
+            Ok(false)
+        }
+    }
+}
+
+fn originals(images: &[&str]) -> io::Result<bool> {
+    let mut worker = Worker::new(LARGE);
+    for path in images {
+        let image = fs::read(path).map_err(|e| at(path, e))?;
+        let reply = worker.ask(Who::Original, &image, 0)?;
+        match reply {
+            Reply::Answer(numbers, map) => {
+                println!("{path}\nanswer {}\nleft {}", text::to_row(&numbers), text::to_hex(&map))
+            }
+            other => println!("{path}\n{other:?}"),
+        }
+    }
+    Ok(true)
+}
+
+fn verify(files: &[&str]) -> io::Result<bool> {
+    let (mut images, mut faults) = (0, Vec::new());
+    for path in files {
+        let text = fs::read_to_string(path).map_err(|e| at(path, e))?;
+        let items = list::parse(&text).map_err(|e| at(path, e))?;
+        images += items.len();
+        faults.extend(sample::replay(&items)?.into_iter().map(|fault| format!("{path}: {fault}")));
+    }
+    faults.iter().for_each(|fault| println!("{fault}"));
+    println!("{images} images replayed, {} faults", faults.len());
+    Ok(faults.is_empty())
+}

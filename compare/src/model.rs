@@ -1,0 +1,155 @@
+//! The rules of the check, stated once more: its refusals with their numbers, and its report.
+//!
+//! Written from the contract and not from the original, in the order of the contract: what block 0 says, the
+//! checkpoint, the object map, the manager, the pool and the chunks, the queues and the claims. It tells which
+//! refusal an image meets, and so which images leave the comparison with the original.
+
+mod audit;
+mod blocks;
+mod checkpoint;
+mod claims;
+mod manager;
+mod tree;
+
+use crate::answer::{Answer, Report, CONSISTENT, INCONSISTENT, MARKED, OWNER, POOL_USED};
+use crate::fields::{manager as m, object, superblock};
+use crate::refusal::Refusal;
+use audit::{Audit, Pool};
+pub use blocks::Blocks;
+use blocks::{need, Step};
+pub use checkpoint::Taken;
+use claims::Claims;
+use manager::Manager;
+use tree::ObjectMap;
+
+/// What a pass met that costs the original more than an error.
+#[derive(Clone, Copy, Default)]
+pub struct Notes {
+    /// A superblock's map chain failed to load by an overflowing sum, on which the original panics.
+    pub chain_sum_overflowed: bool,
+    /// The length of a chain that came round its ring without an end: the original reads all its blocks.
+    pub repeated_chain: u64,
+    /// The manager is longer than its ring, so that its blocks repeat.
+    pub repeated_manager: bool,
+}
+
+/// One pass of the model.
+pub struct Pass {
+    pub answer: Answer,
+    pub refusal: Option<Refusal>,
+    pub notes: Notes,
+}
+
+/// The answer on an image. The map ends as found after refusals 1 to 11, else with one byte set for each block.
+pub fn check(image: &[u8], map: &mut [u8]) -> Pass {
+    let mut notes = Notes::default();
+    let opened = open(image, map.len(), &mut notes);
+    let outcome = opened.and_then(|(blocks, taken)| {
+        let cells = &mut map[..blocks.count as usize];
+        cells.fill(0);
+        let report = pass(&blocks, &taken, cells, &mut notes);
+        if report.is_err() {
+            cells.fill(0);
+        }
+        report
+    });
+    let refusal = outcome.as_ref().err().copied();
+    let answer = match outcome {
+        Ok(report) => Answer::Reported(Box::new(report)),
+        Err(refusal) => Answer::Refused(refusal.number()),
+    };
+    Pass { answer, refusal, notes }
+}
+
+/// Refusals 1 to 11.
+pub fn open<'a>(image: &'a [u8], room: usize, notes: &mut Notes) -> Step<(Blocks<'a>, Taken<'a>)> {
+    let (blocks, area) = geometry(image, room)?;
+    let taken = checkpoint::take(&blocks, &area, notes)?;
+    let features = superblock::INCOMPATIBLE.of(taken.superblock);
+    need(features & superblock::REFUSED_FEATURES == 0, Refusal::Features)?;
+    need(superblock::BLOCK_COUNT.of(taken.superblock) == blocks.count, Refusal::CountDiffers)?;
+    Ok((blocks, taken))
+}
+
+/// Refusals 1 to 8: what block 0 says, and the descriptor area that it names.
+fn geometry(image: &[u8], room: usize) -> Step<(Blocks<'_>, checkpoint::Area)> {
+    need(image.len() >= 4096, Refusal::ShortImage)?;
+    need(superblock::MAGIC.of(image) == superblock::NXSB, Refusal::NoMagic)?;
+    let size = superblock::BLOCK_SIZE.of(image);
+    need(size.is_power_of_two() && (4096..=65536).contains(&size), Refusal::BlockSize)?;
+    let count = superblock::BLOCK_COUNT.of(image);
+    need((1..=0xffff_ffff).contains(&count), Refusal::BlockCount)?;
+    need(count * size <= image.len() as u64, Refusal::ImageBelowCount)?;
+    need(count <= room as u64, Refusal::MapBelowCount)?;
+    let ring = superblock::DESCRIPTOR_BLOCKS.of(image);
+    need(ring < 0x8000_0000, Refusal::DescriptorLength)?;
+    let base = superblock::DESCRIPTOR_BASE.of(image);
+    need(base.checked_add(ring).is_some_and(|end| end <= count), Refusal::DescriptorArea)?;
+    Ok((Blocks { image, size: size as usize, count }, checkpoint::Area { base, ring }))
+}
+
+/// Everything after the choice of the superblock.
+fn pass(blocks: &Blocks, taken: &Taken, cells: &mut [u8], notes: &mut Notes) -> Step<Report> {
+    let objects = ObjectMap::load(blocks, superblock::OBJECT_MAP.of(taken.superblock))?;
+    let manager = Manager::load(blocks, taken, notes)?;
+    let pool = Pool::load(blocks, &manager)?;
+    let mut audit = Audit { pool: &pool, cells, report: Report::default() };
+    audit.chunk_infos(blocks, &manager)?;
+    audit.queue(blocks, taken, manager.field(m::POOL_QUEUE))?;
+    let mut report = audit.report;
+    report.pool_unused = pool.unused(cells)?;
+    let mut claims = Claims { cells, report: &mut report };
+    claims.areas(taken.superblock, &manager)?;
+    claims.object_map(blocks, &objects)?;
+    claims.queue(blocks, taken, manager.field(m::MAIN_QUEUE))?;
+    report.xid = object::XID.of(taken.superblock);
+    report.device_free = manager.field(m::FREE_COUNT);
+    compare(cells, &mut report);
+    Ok(report)
+}
+
+/// Owners against marks, and the verdict.
+fn compare(cells: &[u8], report: &mut Report) {
+    for (block, cell) in (0..).zip(cells) {
+        let (owner, marked) = (usize::from(cell & OWNER), cell & MARKED != 0);
+        report.pool_used += u64::from(cell & POOL_USED != 0);
+        if owner == 0 {
+            report.leaked += u64::from(marked);
+        } else if !marked {
+            let lost = &mut report.lost[owner - 1];
+            lost.first = if lost.count == 0 { block } else { lost.first };
+            lost.count += 1;
+        }
+    }
+    let sound = report.lost_blocks() == 0 && report.overlaps == 0 && report.problems == 0;
+    report.verdict = if sound { CONSISTENT } else { INCONSISTENT };
+}
+
+#[cfg(test)]
+mod tests {
+    use super::*;
+
+    fn refusal(image: &[u8]) -> Option<Refusal> {
+        check(image, &mut [0; 4]).refusal
+    }
+
+    #[test]
+    fn what_block_0_says_is_tested_in_order() {
+        let mut image = vec![0; 4096];
+        assert_eq!(refusal(&image[..4095]), Some(Refusal::ShortImage));
+        assert_eq!(refusal(&image), Some(Refusal::NoMagic));
+        superblock::MAGIC.set(&mut image, superblock::NXSB);
+        superblock::BLOCK_SIZE.set(&mut image, 6144);
+        assert_eq!(refusal(&image), Some(Refusal::BlockSize));
+        superblock::BLOCK_SIZE.set(&mut image, 65536);
+        assert_eq!(refusal(&image), Some(Refusal::BlockCount));
+        superblock::BLOCK_COUNT.set(&mut image, 1);
+        assert_eq!(refusal(&image), Some(Refusal::ImageBelowCount));
+        superblock::BLOCK_SIZE.set(&mut image, 4096);
+        assert_eq!(refusal(&image), Some(Refusal::NoCheckpoint));
+        superblock::DESCRIPTOR_BASE.set(&mut image, 2);
+        assert_eq!(refusal(&image), Some(Refusal::DescriptorArea));
+        superblock::DESCRIPTOR_BLOCKS.set(&mut image, 0x8000_0000);
+        assert_eq!(refusal(&image), Some(Refusal::DescriptorLength));
+    }
+}

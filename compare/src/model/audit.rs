@@ -1,0 +1,186 @@
+//! The pool's bitmap, the chunks' bitmaps and the pool queue: what is marked, what is used, the problems met.
+
+use super::blocks::{bit, cut, field, need, sum, Blocks, Step};
+use super::checkpoint::Taken;
+use super::manager::Manager;
+use super::tree::{scan_queue, Entry};
+use crate::answer::{Problem, Report, LISTED, MARKED, POOL_USED};
+use crate::fields::{chunk, chunk_info, manager as m, queue};
+use crate::refusal::Refusal;
+
+// Problem kinds.
+const INFO_UNMARKED: u64 = 1;
+const BITMAP_UNMARKED: u64 = 2;
+const BITMAP_USED: u64 = 3;
+const QUEUED_UNMARKED: u64 = 4;
+const QUEUED_USED: u64 = 5;
+
+/// The internal pool and its bitmap, block after block.
+pub struct Pool<'a> {
+    base: u64,
+    count: u64,
+    bitmaps: Vec<&'a [u8]>,
+}
+
+impl<'a> Pool<'a> {
+    /// All indices are read before the first bitmap; the size is tested after the last.
+    pub fn load(blocks: &Blocks<'a>, manager: &Manager) -> Step<Self> {
+        let slots = manager.field(m::BITMAP_SLOTS);
+        let indices = manager.list(manager.field(m::INDEX_OFFSET), slots, m::INDEX_WIDTH)?;
+        let ring = manager.field(m::BITMAP_BASE);
+        let bitmaps = indices.iter().map(|&i| blocks.raw(sum(ring, i)?)).collect::<Step<Vec<_>>>()?;
+        let count = manager.field(m::POOL_COUNT);
+        need(count <= slots * blocks.size as u64 * 8, Refusal::Bitmap)?;
+        Ok(Pool { base: manager.field(m::POOL_BASE), count, bitmaps })
+    }
+
+    /// An address below the base wraps round and falls outside.
+    fn marks(&self, address: u64) -> bool {
+        let i = address.wrapping_sub(self.base);
+        i < self.count && {
+            let bits = self.bitmaps[0].len() as u64 * 8;
+            bit(self.bitmaps[(i / bits) as usize], i % bits)
+        }
+    }
+
+    /// Pool blocks marked and not used; those past the container can't be used.
+    pub fn unused(&self, cells: &[u8]) -> Step<u64> {
+        let mut unused = 0;
+        for i in 0..self.count {
+            let address = sum(self.base, i)?;
+            unused += u64::from(self.marks(address) && !is_used(cells, address));
+        }
+        Ok(unused)
+    }
+}
+
+fn is_used(cells: &[u8], address: u64) -> bool {
+    usize::try_from(address).ok().and_then(|a| cells.get(a)).is_some_and(|cell| cell & POOL_USED != 0)
+}
+
+struct Chunk {
+    address: u64,
+    blocks: u64,
+    free: u64,
+    bitmap: u64,
+}
+
+/// All records of a chunk-info block.
+fn chunks(block: &[u8]) -> Step<Vec<Chunk>> {
+    let record = |i: usize| {
+        let r = cut(block, chunk_info::RECORDS + i * chunk_info::RECORD, chunk_info::RECORD)?;
+        Ok(Chunk {
+            address: chunk::ADDRESS.of(r),
+            blocks: chunk::BLOCKS.of(r) & chunk::COUNT_MASK,
+            free: chunk::FREE.of(r) & chunk::COUNT_MASK,
+            bitmap: chunk::BITMAP.of(r),
+        })
+    };
+    (0..chunk_info::COUNT.of(block) as usize).map(record).collect()
+}
+
+/// The address and the count of a queue's entry; a ghost counts 1.
+pub fn queued(entry: &Entry) -> Step<(u64, u64)> {
+    let address = field(entry.key, queue::ADDRESS.at, queue::ADDRESS.width)?;
+    let count = entry.value.map_or(Ok(1), |value| field(value, queue::COUNT.at, queue::COUNT.width))?;
+    Ok((address, count))
+}
+
+pub struct Audit<'p, 'c> {
+    pub pool: &'p Pool<'p>,
+    pub cells: &'c mut [u8],
+    pub report: Report,
+}
+
+impl Audit<'_, '_> {
+    /// Notes a problem where the test holds.
+    fn problem_if(&mut self, test: bool, kind: u64, block: u64) {
+        if !test {
+            return;
+        }
+        if self.report.problems < LISTED as u64 {
+            self.report.first_problems[self.report.problems as usize] = Problem { kind, block };
+        }
+        self.report.problems += 1;
+    }
+
+    /// The address list is read whole before the first block, a block's records before its first chunk.
+    pub fn chunk_infos(&mut self, blocks: &Blocks, manager: &Manager) -> Step<()> {
+        let (offset, count) = (manager.field(m::CHUNK_INFO_OFFSET), manager.field(m::CHUNK_INFO_COUNT));
+        for address in manager.list(offset, count, m::ADDRESS_WIDTH)? {
+            self.problem_if(!self.pool.marks(address), INFO_UNMARKED, address);
+            let records = chunks(blocks.raw(address)?)?;
+            self.cells[address as usize] |= POOL_USED;
+            records.iter().try_for_each(|chunk| self.chunk(blocks, chunk))?;
+        }
+        Ok(())
+    }
+
+    fn chunk(&mut self, blocks: &Blocks, chunk: &Chunk) -> Step<()> {
+        let mut free = chunk.blocks;
+        if chunk.bitmap != 0 {
+            self.problem_if(!self.pool.marks(chunk.bitmap), BITMAP_UNMARKED, chunk.bitmap);
+            self.problem_if(is_used(self.cells, chunk.bitmap), BITMAP_USED, chunk.bitmap);
+            let bitmap = blocks.raw(chunk.bitmap)?;
+            self.cells[chunk.bitmap as usize] |= POOL_USED;
+            need(chunk.blocks <= bitmap.len() as u64 * 8, Refusal::Bitmap)?;
+            for i in (0..chunk.blocks).filter(|&i| bit(bitmap, i)) {
+                let block = sum(chunk.address, i)?;
+                need(block < blocks.count, Refusal::Bitmap)?;
+                self.cells[block as usize] |= MARKED;
+                free -= 1;
+            }
+        }
+        self.report.free = sum(self.report.free, free)?;
+        self.report.wrong_counts += u64::from(free != chunk.free);
+        Ok(())
+    }
+
+    /// The pool queue: each of its blocks must be marked and not used.
+    pub fn queue(&mut self, blocks: &Blocks, taken: &Taken, root: u64) -> Step<()> {
+        scan_queue(blocks, taken, root, &mut |entry| {
+            let (address, count) = queued(&entry)?;
+            let end = address.checked_add(count).filter(|&end| end <= blocks.count);
+            for block in address..end.ok_or(Refusal::QueuedPastCount)? {
+                self.problem_if(!self.pool.marks(block), QUEUED_UNMARKED, block);
+                self.problem_if(is_used(self.cells, block), QUEUED_USED, block);
+                self.cells[block as usize] |= POOL_USED;
+            }
+            Ok(())
+        })
+    }
+}
+
+#[cfg(test)]
+mod tests {
+    use super::*;
+
+    #[test]
+    fn a_pool_marks_its_own_blocks() {
+        let bitmap = [0x03; 4096];
+        let pool = Pool { base: 6, count: 2, bitmaps: vec![&bitmap] };
+        assert_eq!([5, 6, 7, 8].map(|address| pool.marks(address)), [false, true, true, false]);
+    }
+
+    #[test]
+    fn a_block_holds_126_records() {
+        let mut block = vec![0; 4096];
+        chunk_info::COUNT.set(&mut block, 126);
+        assert_eq!(chunks(&block).map(|c| c.len()), Ok(126));
+        chunk_info::COUNT.set(&mut block, 127);
+        assert_eq!(chunks(&block).map(|c| c.len()), Err(Refusal::Absent));
+    }
+
+    #[test]
+    fn zeros_of_a_bitmap_are_free() {
+        let mut image = vec![0; 16 * 4096];
+        image[4096..4098].copy_from_slice(&[0xff, 0x03]);
+        let blocks = Blocks { image: &image, size: 4096, count: 16 };
+        let pool = Pool { base: 0, count: 0, bitmaps: Vec::new() };
+        for (bitmap, free) in [(0, 16), (1, 6)] {
+            let mut audit = Audit { pool: &pool, cells: &mut [0; 16], report: Report::default() };
+            assert_eq!(audit.chunk(&blocks, &Chunk { address: 0, blocks: 16, free, bitmap }), Ok(()));
+            assert_eq!((audit.report.free, audit.report.wrong_counts), (free, 0));
+        }
+    }
+}

@@ -1,0 +1,56 @@
+//! The space manager: an object over one or more blocks of the data ring.
+
+use super::blocks::{need, sum, Blocks, Step};
+use super::checkpoint::Taken;
+use super::Notes;
+use crate::fields::{manager, superblock, Field};
+use crate::fletcher::verifies_in_parts;
+use crate::refusal::Refusal;
+
+/// Area lengths drop their top bit.
+pub const LENGTH_MASK: u64 = 0x7fff_ffff;
+
+pub struct Manager<'a> {
+    /// Its blocks in order, the last one whole: an object of 4 GiB over a ring of two blocks needs no copy.
+    parts: Vec<&'a [u8]>,
+    length: usize,
+}
+
+impl<'a> Manager<'a> {
+    pub fn load(blocks: &Blocks<'a>, taken: &Taken, notes: &mut Notes) -> Step<Self> {
+        let mapping = taken.lookup(superblock::MANAGER_ID.of(taken.superblock)).ok_or(Refusal::NotMapped)?;
+        let base = superblock::DATA_BASE.of(taken.superblock);
+        let ring = (superblock::DATA_BLOCKS.of(taken.superblock) & LENGTH_MASK).max(1);
+        let block_of = |i: u64| {
+            let offset = mapping.address.checked_sub(base).ok_or(Refusal::Sum)?;
+            blocks.raw(sum(base, sum(offset, i)? % ring)?)
+        };
+        let parts = (0..mapping.size.div_ceil(blocks.size as u64)).map(block_of).collect::<Step<Vec<_>>>()?;
+        notes.repeated_manager = parts.len() as u64 > ring;
+        let length = mapping.size as usize;
+        need(verifies_in_parts(&parts, length), Refusal::Checksum)?;
+        need(length >= manager::LENGTH, Refusal::Absent)?;
+        let manager = Manager { parts, length };
+        need(manager.field(manager::ADDRESS_BLOCKS) == 0, Refusal::AddressBlocks)?;
+        Ok(manager)
+    }
+
+    pub fn field(&self, field: Field) -> u64 {
+        self.number(field.at, field.width).expect("the manager holds its fields")
+    }
+
+    /// `count` numbers of `width` bytes from `offset` on, read whole.
+    pub fn list(&self, offset: u64, count: u64, width: usize) -> Step<Vec<u64>> {
+        (0..count as usize).map(|i| self.number(offset as usize + i * width, width)).collect()
+    }
+
+    fn number(&self, at: usize, width: usize) -> Step<u64> {
+        need(at + width <= self.length, Refusal::Absent)?;
+        Ok((at..at + width).rev().fold(0, |n, i| n << 8 | u64::from(self.byte(i))))
+    }
+
+    fn byte(&self, i: usize) -> u8 {
+        let size = self.parts[0].len();
+        self.parts[i / size][i % size]
+    }
+}

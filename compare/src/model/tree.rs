@@ -1,0 +1,221 @@
+//! Tree nodes, the scan of a tree, the walk of a physical tree, and the object map's own tree.
+
+use super::blocks::{cut, field, need, Blocks, Step};
+use super::checkpoint::Taken;
+use crate::fields::{description, fixed_slot, node, object, object_map, variable_slot, Field};
+use crate::refusal::Refusal;
+
+/// A walk may need so many levels.
+const WALK_LEVELS: u64 = 33;
+
+#[derive(Clone, Copy)]
+pub struct Node<'a> {
+    bytes: &'a [u8],
+    flags: u64,
+    level: u64,
+    keys: u64,
+    table: usize,
+    key_area: usize,
+    value_end: usize,
+}
+
+/// What a root says of its tree.
+#[derive(Clone, Copy)]
+pub struct Description {
+    flags: u64,
+    key_size: usize,
+    value_size: usize,
+}
+
+/// An entry of a node; a ghost has no value.
+pub struct Entry<'a> {
+    pub key: &'a [u8],
+    pub value: Option<&'a [u8]>,
+}
+
+impl<'a> Node<'a> {
+    /// Reads a node: 12, 13, 14 and 15.
+    pub fn read(blocks: &Blocks<'a>, address: u64) -> Step<Self> {
+        let bytes = blocks.object(address)?;
+        need([object::ROOT_NODE, object::NODE].contains(&object::KIND.of(bytes)), Refusal::Kind)?;
+        let flags = node::FLAGS.of(bytes);
+        need(flags & node::HASHED == 0, Refusal::Kind)?;
+        let table = node::DATA + node::TABLE_OFFSET.of(bytes) as usize;
+        let key_area = table + node::TABLE_LENGTH.of(bytes) as usize;
+        let value_end = bytes.len() - if flags & node::ROOT != 0 { description::LENGTH } else { 0 };
+        let level = node::LEVEL.of(bytes);
+        need(key_area <= value_end && level <= node::HIGHEST_LEVEL, Refusal::Layout)?;
+        Ok(Node { bytes, flags, level, keys: node::KEYS.of(bytes), table, key_area, value_end })
+    }
+
+    fn is(&self, flag: u64) -> bool {
+        self.flags & flag != 0
+    }
+
+    pub fn describe(&self) -> Step<Description> {
+        need(self.is(node::ROOT), Refusal::Layout)?;
+        let last = &self.bytes[self.bytes.len() - description::LENGTH..];
+        Ok(Description {
+            flags: description::FLAGS.of(last),
+            key_size: description::KEY_SIZE.of(last) as usize,
+            value_size: description::VALUE_SIZE.of(last) as usize,
+        })
+    }
+
+    /// Entry `i`: its slot, its key and its value must lie inside the node.
+    fn entry(&self, i: u64, tree: &Description) -> Step<Entry<'a>> {
+        let fixed = self.is(node::FIXED);
+        let slot = self.table + i as usize * if fixed { fixed_slot::LENGTH } else { variable_slot::LENGTH };
+        let part = |f: Field| field(self.bytes, slot + f.at, f.width).map(|n| n as usize);
+        let (key_at, key_length, value_at, value_length) = if fixed {
+            let value_size = if self.is(node::LEAF) { tree.value_size } else { node::POINTER };
+            (part(fixed_slot::KEY)?, tree.key_size, part(fixed_slot::VALUE)?, value_size)
+        } else {
+            use variable_slot::*;
+            (part(KEY)?, part(KEY_LENGTH)?, part(VALUE)?, part(VALUE_LENGTH)?)
+        };
+        let key = cut(self.bytes, self.key_area + key_at, key_length)?;
+        if value_at as u64 == node::GHOST {
+            return Ok(Entry { key, value: None });
+        }
+        let value_start = self.value_end.checked_sub(value_at).ok_or(Refusal::Absent)?;
+        Ok(Entry { key, value: Some(cut(self.bytes, value_start, value_length)?) })
+    }
+}
+
+fn pointer(entry: &Entry) -> Step<u64> {
+    field(entry.value.ok_or(Refusal::Absent)?, 0, node::POINTER)
+}
+
+/// Reads the node that a child pointer names.
+pub type Child<'a, 'f> = &'f dyn Fn(u64) -> Step<Node<'a>>;
+
+/// All entries below a node, from first to last.
+pub fn scan<'a>(
+    node: &Node<'a>,
+    tree: &Description,
+    child: Child<'a, '_>,
+    visit: &mut dyn FnMut(Entry<'a>) -> Step<()>,
+) -> Step<()> {
+    for i in 0..node.keys {
+        let entry = node.entry(i, tree)?;
+        if node.is(node::LEAF) {
+            visit(entry)?;
+            continue;
+        }
+        // Entry i + 1 is looked at before child i is read.
+        if i + 1 < node.keys {
+            node.entry(i + 1, tree)?;
+        }
+        let below = child(pointer(&entry)?)?;
+        need(below.level + 1 == node.level, Refusal::Level)?;
+        scan(&below, tree, child, visit)?;
+    }
+    Ok(())
+}
+
+/// A queue's tree, whose pointers are ids in the checkpoint map; nothing where its root isn't mapped.
+pub fn scan_queue<'a>(
+    blocks: &Blocks<'a>,
+    taken: &Taken,
+    root: u64,
+    visit: &mut dyn FnMut(Entry<'a>) -> Step<()>,
+) -> Step<()> {
+    let Some(mapping) = taken.lookup(root) else { return Ok(()) };
+    let root = Node::read(blocks, mapping.address)?;
+    let tree = root.describe()?;
+    let child = |id| Node::read(blocks, taken.lookup(id).ok_or(Refusal::NotMapped)?.address);
+    scan(&root, &tree, &child, visit)
+}
+
+/// The object map, whose tree's pointers are addresses.
+pub struct ObjectMap<'a> {
+    pub address: u64,
+    root_address: u64,
+    root: Node<'a>,
+    tree: Description,
+}
+
+impl<'a> ObjectMap<'a> {
+    pub fn load(blocks: &Blocks<'a>, address: u64) -> Step<Self> {
+        let bytes = blocks.object(address)?;
+        need(object::KIND.of(bytes) == object::OBJECT_MAP, Refusal::Kind)?;
+        let storage = object_map::TREE_TYPE.of(bytes) >> object_map::STORAGE_SHIFT;
+        need(storage == object_map::PHYSICAL, Refusal::Kind)?;
+        let root_address = object_map::ROOT.of(bytes);
+        let root = Node::read(blocks, root_address)?;
+        let tree = root.describe()?;
+        let sizes = (tree.key_size, tree.value_size);
+        let expected = (crate::fields::mapped::SIZE, crate::fields::mapped::SIZE);
+        need(tree.flags & description::PHYSICAL != 0 && sizes == expected, Refusal::Layout)?;
+        Ok(ObjectMap { address, root_address, root, tree })
+    }
+
+    pub fn scan(&self, blocks: &Blocks<'a>, visit: &mut dyn FnMut(Entry<'a>) -> Step<()>) -> Step<()> {
+        scan(&self.root, &self.tree, &|address| Node::read(blocks, address), visit)
+    }
+
+    /// The addresses of all nodes, parent first and last child first.
+    pub fn walk(&self, blocks: &Blocks<'a>, visit: &mut dyn FnMut(u64) -> Step<()>) -> Step<()> {
+        let mut walk = Walk { blocks, tree: &self.tree, nodes: 0, visit };
+        walk.from(self.root_address, 1)
+    }
+}
+
+struct Walk<'w, 'a> {
+    blocks: &'w Blocks<'a>,
+    tree: &'w Description,
+    nodes: u64,
+    visit: &'w mut dyn FnMut(u64) -> Step<()>,
+}
+
+impl Walk<'_, '_> {
+    fn from(&mut self, address: u64, level: u64) -> Step<()> {
+        need(level <= WALK_LEVELS && self.nodes < self.blocks.count, Refusal::Walk)?;
+        self.nodes += 1;
+        let node = Node::read(self.blocks, address)?;
+        (self.visit)(address)?;
+        if node.is(node::LEAF) {
+            return Ok(());
+        }
+        let pointers = (0..node.keys).map(|i| pointer(&node.entry(i, self.tree)?)).collect::<Step<Vec<u64>>>()?;
+        pointers.iter().rev().try_for_each(|&below| self.from(below, level + 1))
+    }
+}
+
+#[cfg(test)]
+mod tests {
+    use super::*;
+    use crate::nodes::{bytes_of, Node as Built, Sizes};
+    use crate::rng::Rng;
+
+    /// Blocks 1 and up hold nodes of the given levels, each but the last an index node over the next.
+    fn image(levels: &[u64]) -> Vec<u8> {
+        let mut image = vec![0; (levels.len() + 1) * 4096];
+        for (i, &level) in levels.iter().enumerate() {
+            let leaf = i + 1 == levels.len();
+            let entry = (vec![0; 16], Some(bytes_of(&[i as u64 + 2])));
+            let entries = if leaf { Vec::new() } else { vec![entry] };
+            let root = (i == 0).then_some(Sizes { key: 16, value: 16 });
+            let node = Built { id: 1, xid: 1, subtype: 0, level, leaf, fixed: true, root, entries: &entries };
+            node.write(&mut image[(i + 1) * 4096..][..4096], &mut Rng::new(1));
+        }
+        image
+    }
+
+    fn scanned(levels: &[u64]) -> Step<()> {
+        let image = image(levels);
+        let blocks = Blocks { image: &image, size: 4096, count: levels.len() as u64 + 1 };
+        let root = Node::read(&blocks, 1)?;
+        scan(&root, &root.describe()?, &|address| Node::read(&blocks, address), &mut |_| Ok(()))
+    }
+
+    #[test]
+    fn levels_go_up_to_32_and_fall_by_one() {
+        assert_eq!(scanned(&[32]), Ok(()));
+        assert_eq!(scanned(&[33]), Err(Refusal::Layout));
+        assert_eq!(scanned(&[1, 0]), Ok(()));
+        assert_eq!(scanned(&[2, 0]), Err(Refusal::Level));
+        assert_eq!(scanned(&[0, 0]), Err(Refusal::Level));
+    }
+}

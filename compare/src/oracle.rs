@@ -1,0 +1,228 @@
+//! Runs the original on an image and reads its printed lines back into figures.
+
+use std::any::Any;
+use std::panic::{catch_unwind, AssertUnwindSafe};
+
+use apfs::Container;
+use winapfs::dump::space_check_container;
+use winapfs::{take_caught, Caught, Cells};
+
+use crate::answer::{Lost, Overlap, Problem, Report, CONSISTENT, INCONSISTENT, KINDS, LISTED, MARKED, POOL_USED};
+
+/// How a run of the original ended.
+#[derive(Debug, PartialEq, Eq)]
+pub enum Ended {
+    /// With a report, and the block map.
+    Report(Box<Report>, Vec<u8>),
+    /// With an error other than its inconsistent verdict.
+    Error(String),
+    Panic(String),
+    /// Its lines could not be read back: a fault of this harness.
+    Unreadable(String),
+}
+
+/// The error that stands for the verdict "inconsistent".
+const INCONSISTENT_ERROR: &str = "the space map is inconsistent";
+
+/// Panics are caught here and told by the answer: they need no message of their own.
+pub fn silence_panics() {
+    std::panic::set_hook(Box::new(|_| {}));
+}
+
+/// The original's answer. It may allocate without bound or run for ever: call it in a limited process.
+pub fn run(image: Vec<u8>) -> Ended {
+    take_caught();
+    let pass = || -> Result<(), String> {
+        let container = Container::open(Box::new(image)).map_err(|e| e.to_string())?;
+        space_check_container(&container, "image").map_err(|e| e.msg)
+    };
+    let verdict = match catch_unwind(AssertUnwindSafe(pass)) {
+        Ok(Ok(())) => CONSISTENT,
+        Ok(Err(message)) if message == INCONSISTENT_ERROR => INCONSISTENT,
+        Ok(Err(message)) => return Ended::Error(message),
+        Err(cause) => return Ended::Panic(message_of(cause.as_ref())),
+    };
+    let Caught { lines, cells } = take_caught();
+    match (Lines::new(&lines).report(verdict), cells) {
+        (Ok(report), Some(cells)) => Ended::Report(Box::new(report), block_map(&cells)),
+        (Ok(_), None) => Ended::Unreadable("no block map was handed out".into()),
+        (Err(line), _) => Ended::Unreadable(line),
+    }
+}
+
+fn message_of(cause: &(dyn Any + Send)) -> String {
+    let text = cause.downcast_ref::<&str>().copied().or_else(|| cause.downcast_ref::<String>().map(String::as_str));
+    text.unwrap_or("no message").to_string()
+}
+
+fn block_map(cells: &Cells) -> Vec<u8> {
+    let number: Vec<u8> = cells.kinds.iter().map(|name| kind_number(name).unwrap_or(0) as u8).collect();
+    (0u64..)
+        .zip(cells.owner.iter().zip(&cells.marked))
+        .map(|(block, (&owner, &marked))| {
+            let used = if cells.pool_used.contains(&block) { POOL_USED } else { 0 };
+            number[usize::from(owner)] | used | if marked { MARKED } else { 0 }
+        })
+        .collect()
+}
+
+fn kind_number(name: &str) -> Option<u64> {
+    (1..).zip(KINDS).find(|(_, kind)| *kind == name).map(|(number, _)| number)
+}
+
+/// Problem lines, by the problem's kind from 1.
+const PROBLEM_LINES: [&str; 5] = [
+    "  chunk-info block {} is free in the internal-pool bitmap",
+    "  chunk bitmap {} is free in the internal-pool bitmap",
+    "  internal-pool block {} used twice",
+    "  queued internal-pool block {} is already free",
+    "  internal-pool block {} queued but still in use",
+];
+
+/// Printed lines, read from the first to the last.
+struct Lines<'a> {
+    lines: &'a [String],
+    next: usize,
+}
+
+type Read<T> = Result<T, String>;
+
+impl<'a> Lines<'a> {
+    fn new(lines: &'a [String]) -> Self {
+        Self { lines, next: 0 }
+    }
+
+    fn report(mut self, verdict: u64) -> Read<Report> {
+        let [xid] = self.numbers("space check  image  xid {}")?;
+        let [pool_used, pool_unused, problems] =
+            self.numbers("internal pool  {} blocks in use, {} marked but unused, {} problems")?;
+        let mut report = Report { xid, pool_used, pool_unused, problems, verdict, ..Report::default() };
+        for place in listed(&mut report.first_problems, problems) {
+            *place = self.problem()?;
+        }
+        self.bitmaps(&mut report)?;
+        [report.overlaps] = self.numbers("overlaps   {} blocks claimed by two different things")?;
+        for place in listed(&mut report.first_overlaps, report.overlaps) {
+            *place = self.overlap()?;
+        }
+        self.lost(&mut report)?;
+        [report.leaked] = self.numbers("allocated but unused (leaked): {} blocks ()")?;
+        if verdict == CONSISTENT {
+            self.parts("result     consistent: nothing in use is marked free, nothing is claimed twice")?;
+        }
+        match self.lines.get(self.next) {
+            None => Ok(report),
+            Some(line) => Err(format!("a line too many: {line}")),
+        }
+    }
+
+    fn bitmaps(&mut self, report: &mut Report) -> Read<()> {
+        let line = "bitmaps    {} blocks free; chunks with a wrong free count: {}; device free count {} ({})";
+        let parts = self.parts(line)?;
+        [report.free, report.wrong_counts, report.device_free] = decimals(&parts[..3])?;
+        let said = if report.free == report.device_free { "matches" } else { "DOES NOT MATCH" };
+        if parts[3] == said {
+            Ok(())
+        } else {
+            Err(format!("{} where it {said}", parts[3]))
+        }
+    }
+
+    fn problem(&mut self) -> Read<Problem> {
+        let line = self.line()?;
+        let found = (1..).zip(PROBLEM_LINES).find_map(|(kind, text)| Some((kind, matched(text, line)?)));
+        let (kind, parts) = found.ok_or_else(|| format!("no problem line: {line}"))?;
+        Ok(Problem { kind, block: hex(parts[0])? })
+    }
+
+    fn overlap(&mut self) -> Read<Overlap> {
+        let parts = self.parts("  block {}: {} and {}")?;
+        Ok(Overlap { block: hex(parts[0])?, owner: kind(parts[1])?, claimant: kind(parts[2])? })
+    }
+
+    /// The lines of the kinds follow their sum and end where it is reached.
+    fn lost(&mut self, report: &mut Report) -> Read<()> {
+        let [total] = self.numbers("in use but marked free: {} blocks")?;
+        while report.lost_blocks() < total {
+            let parts = self.parts("  {}: {} (first at {})")?;
+            let [count] = decimals(&parts[1..2])?;
+            report.lost[kind(parts[0])? as usize - 1] = Lost { count, first: hex(parts[2])? };
+        }
+        if report.lost_blocks() == total {
+            Ok(())
+        } else {
+            Err(format!("{total} is not the sum of its lines"))
+        }
+    }
+
+    fn line(&mut self) -> Read<&'a str> {
+        let line = self.lines.get(self.next).ok_or("a line is missing")?;
+        self.next += 1;
+        Ok(line)
+    }
+
+    fn parts(&mut self, pattern: &str) -> Read<Vec<&'a str>> {
+        let line = self.line()?;
+        matched(pattern, line).ok_or_else(|| format!("`{line}` is not `{pattern}`"))
+    }
+
+    fn numbers<const N: usize>(&mut self, pattern: &str) -> Read<[u64; N]> {
+        decimals(&self.parts(pattern)?)
+    }
+}
+
+/// The places of a list that `count` findings fill.
+fn listed<T>(places: &mut [T; LISTED], count: u64) -> &mut [T] {
+    &mut places[..LISTED.min(usize::try_from(count).unwrap_or(LISTED))]
+}
+
+/// What stands at each `{}` of the pattern, where the line has the pattern's form.
+fn matched<'a>(pattern: &str, line: &'a str) -> Option<Vec<&'a str>> {
+    let mut pieces = pattern.split("{}");
+    let mut rest = line.strip_prefix(pieces.next()?)?;
+    let mut parts = Vec::new();
+    let pieces: Vec<&str> = pieces.collect();
+    for (i, piece) in pieces.iter().enumerate() {
+        // The last piece must end the line, the others stand at their first occurrence.
+        let at = if i + 1 == pieces.len() { rest.len().checked_sub(piece.len())? } else { rest.find(piece)? };
+        parts.push(&rest[..at]);
+        rest = rest[at..].strip_prefix(piece)?;
+    }
+    rest.is_empty().then_some(parts)
+}
+
+fn decimals<const N: usize>(parts: &[&str]) -> Read<[u64; N]> {
+    let numbers: Result<Vec<u64>, _> = parts.iter().map(|p| p.parse()).collect();
+    let numbers = numbers.map_err(|e| format!("{parts:?}: {e}"))?;
+    numbers.try_into().map_err(|_| format!("{parts:?} are not {N} numbers"))
+}
+
+fn hex(part: &str) -> Read<u64> {
+    let digits = part.strip_prefix("0x").ok_or_else(|| format!("{part} has no 0x"))?;
+    u64::from_str_radix(digits, 16).map_err(|e| format!("{part}: {e}"))
+}
+
+fn kind(name: &str) -> Read<u64> {
+    kind_number(name).ok_or_else(|| format!("no kind: {name}"))
+}
+
+#[cfg(test)]
+mod tests {
+    use super::*;
+
+    #[test]
+    fn patterns_take_whole_lines() {
+        assert_eq!(matched("a {} b {}", "a 1 b 2"), Some(vec!["1", "2"]));
+        assert_eq!(matched("a {} b {} c", "a 1 b 2"), None);
+        assert_eq!(
+            matched("  block {}: {} and {}", "  block 0x1: object map and volume superblock").unwrap()[2],
+            "volume superblock"
+        );
+        assert_eq!(matched("end", "end of it"), None);
+    }
+
+    #[test]
+    fn an_empty_image_errs() {
+        assert!(matches!(run(Vec::new()), Ended::Error(_)));
+    }
+}

@@ -1,0 +1,54 @@
+//! The objects that a pass reads, by what they are for.
+
+/// What an object is for.
+#[derive(Clone, Copy, Debug, PartialEq, Eq, PartialOrd, Ord)]
+pub enum Role {
+    BlockZero,
+    Superblock,
+    CheckpointMap,
+    Manager,
+    PoolBitmap,
+    ChunkInfo,
+    ChunkBitmap,
+    ObjectMap,
+    ObjectMapNode,
+    PoolQueueNode,
+    MainQueueNode,
+}
+
+impl Role {
+    pub const ALL: [Role; 11] = [
+        Role::BlockZero,
+        Role::Superblock,
+        Role::CheckpointMap,
+        Role::Manager,
+        Role::PoolBitmap,
+        Role::ChunkInfo,
+        Role::ChunkBitmap,
+        Role::ObjectMap,
+        Role::ObjectMapNode,
+        Role::PoolQueueNode,
+        Role::MainQueueNode,
+    ];
+
+    pub fn name(self) -> &'static str {
+        match self {
+            Role::BlockZero => "block 0",
+            Role::Superblock => "superblock",
+            Role::CheckpointMap => "checkpoint map",
+            Role::Manager => "manager",
+            Role::PoolBitmap => "pool bitmap",
+            Role::ChunkInfo => "chunk-info block",
+            Role::ChunkBitmap => "chunk bitmap",
+            Role::ObjectMap => "object map",
+            Role::ObjectMapNode => "object map node",
+            Role::PoolQueueNode => "pool queue node",
+            Role::MainQueueNode => "main queue node",
+        }
+    }
+
+    /// The object's checksum is tested.
+    pub fn sealed(self) -> bool {
+        !matches!(self, Role::BlockZero | Role::PoolBitmap | Role::ChunkInfo | Role::ChunkBitmap)
+    }
+}

@@ -1,0 +1,181 @@
+//! What kind of container is to be built: chosen from a seed, before any address is.
+
+use crate::nodes::{SizeMode, TreeShape};
+use crate::rng::Rng;
+
+/// The blocks of an image that fits 65,536 bytes.
+const SMALL: u64 = 16;
+
+#[derive(Clone, Debug)]
+pub struct Shape {
+    pub block_size: usize,
+    pub checkpoints: u64,
+    /// The two newest checkpoints have one xid.
+    pub equal_xids: bool,
+    /// The newest checkpoint's map is broken, so an older one is taken.
+    pub torn: bool,
+    /// Each checkpoint has a manager of its own.
+    pub own_managers: bool,
+    /// Map blocks of each checkpoint.
+    pub chain: u64,
+    pub descriptor_slack: u64,
+    pub manager_blocks: u64,
+    pub data_slack: u64,
+    pub bitmap_slots: u64,
+    pub bitmap_slack: u64,
+    /// The pool stands last and its count reaches past the container.
+    pub pool_reaches_out: bool,
+    pub pool_slack: u64,
+    pub chunk_infos: u64,
+    pub chunks: u64,
+    pub object_map: TreeShape,
+    /// Entries of each leaf of the object map's tree; every fourth is a ghost.
+    pub mappings: u64,
+    pub pool_queue: Option<QueueShape>,
+    pub main_queue: Option<QueueShape>,
+    /// Blocks that nothing uses.
+    pub free: u64,
+}
+
+#[derive(Clone, Debug)]
+pub struct QueueShape {
+    pub tree: TreeShape,
+    /// For each leaf, its entries' counts; a ghost is none and counts 1.
+    pub leaves: Vec<Vec<Option<u64>>>,
+}
+
+impl QueueShape {
+    /// The blocks that wait in the queue.
+    pub fn blocks(&self) -> u64 {
+        self.leaves.iter().flatten().map(|count| count.unwrap_or(1)).sum()
+    }
+
+    fn random(rng: &mut Rng, most: u64) -> Self {
+        let tree = tree(rng, most);
+        let count = |rng: &mut Rng| if rng.chance(30) { None } else { Some(rng.below(4)) };
+        let leaf = |rng: &mut Rng| (0..rng.below(most + 1)).map(|_| count(rng)).collect();
+        QueueShape { tree, leaves: (0..tree.leaves()).map(|_| leaf(rng)).collect() }
+    }
+}
+
+fn tree(rng: &mut Rng, most: u64) -> TreeShape {
+    TreeShape {
+        levels: rng.between(1, most),
+        fan: rng.between(1, most.min(2)),
+        mode: SizeMode::random(rng),
+        lowest_level: if rng.chance(10) { rng.below(30) } else { 0 },
+    }
+}
+
+impl Shape {
+    pub fn random(rng: &mut Rng) -> Self {
+        if rng.chance(60) {
+            // Tried until one fits: most do after a few.
+            loop {
+                let most = if rng.chance(70) { 1 } else { 2 };
+                let shape = Self::of_size(rng, 4096, most);
+                if shape.blocks() <= SMALL {
+                    return shape;
+                }
+            }
+        }
+        let block_size = *rng.pick(&[4096, 4096, 4096, 4096, 4096, 4096, 8192, 8192, 8192, 16384, 32768, 65536]);
+        Self::of_size(rng, block_size, 3)
+    }
+
+    /// More pool blocks than one bitmap block has bits, and chunks that still fit theirs.
+    pub fn with_large_pool(rng: &mut Rng) -> Self {
+        let shape = Self::of_size(rng, 4096, 3);
+        let (bitmap_slots, pool_slack) = (2, 50_000);
+        Shape { bitmap_slots, pool_slack, pool_reaches_out: false, chunk_infos: 3, chunks: 40, ..shape }
+    }
+
+    /// Numbers of things go up to `most`.
+    fn of_size(rng: &mut Rng, block_size: usize, most: u64) -> Self {
+        let checkpoints = rng.between(1, most + 1);
+        let several = checkpoints > 1;
+        let chunk_infos = rng.between(1, most);
+        let small = most < 3;
+        // Most of what takes many blocks stays single in a part of the shapes.
+        let single = |rng: &mut Rng, percent: u64, else_most: u64| if rng.chance(percent) { 1 } else { else_most };
+        let manager_most = single(rng, 50, most);
+        let slots_most = single(rng, 50, 2);
+        let map_most = single(rng, if small { 50 } else { 10 }, 3);
+        let queue_mosts = [single(rng, 70, 3), single(rng, 70, 3)];
+        Shape {
+            block_size,
+            checkpoints,
+            equal_xids: several && rng.chance(30),
+            torn: several && rng.chance(25),
+            own_managers: several && rng.chance(60),
+            chain: rng.between(1, most),
+            descriptor_slack: rng.below(most),
+            manager_blocks: rng.between(1, manager_most),
+            data_slack: rng.below(most),
+            bitmap_slots: rng.between(1, slots_most),
+            bitmap_slack: rng.below(most),
+            pool_reaches_out: rng.chance(10),
+            pool_slack: rng.below(most + 1),
+            chunk_infos,
+            chunks: rng.between(chunk_infos, chunk_infos * most),
+            object_map: tree(rng, map_most),
+            mappings: rng.below(most + 2),
+            pool_queue: rng.chance(60).then(|| QueueShape::random(rng, queue_mosts[0])),
+            main_queue: rng.chance(60).then(|| QueueShape::random(rng, queue_mosts[1])),
+            free: if small { rng.below(4) } else { rng.below(12) + if rng.chance(10) { 40 } else { 0 } },
+        }
+    }
+
+    pub fn managers(&self) -> u64 {
+        if self.own_managers {
+            self.checkpoints
+        } else {
+            1
+        }
+    }
+
+    pub fn descriptor_blocks(&self) -> u64 {
+        self.checkpoints * (self.chain + 1) + self.descriptor_slack
+    }
+
+    pub fn queue_nodes(&self) -> u64 {
+        [&self.pool_queue, &self.main_queue].into_iter().flatten().map(|q| q.tree.nodes()).sum()
+    }
+
+    pub fn data_blocks(&self) -> u64 {
+        self.managers() * self.manager_blocks + self.queue_nodes() + self.data_slack
+    }
+
+    pub fn bitmap_blocks(&self) -> u64 {
+        self.bitmap_slots + self.bitmap_slack
+    }
+
+    /// Pool blocks inside the container: chunk-info blocks, chunk bitmaps, queued blocks and some more.
+    pub fn pool_blocks(&self) -> u64 {
+        let queued = self.pool_queue.as_ref().map_or(0, QueueShape::blocks);
+        self.chunk_infos + self.chunks + queued + self.pool_slack
+    }
+
+    /// Leaf entries of the object map's tree.
+    pub fn mapping_entries(&self) -> u64 {
+        self.object_map.leaves() * self.mappings
+    }
+
+    pub fn is_ghost(mapping: u64) -> bool {
+        mapping % 4 == 3
+    }
+
+    pub fn volumes(&self) -> u64 {
+        (0..self.mapping_entries()).filter(|&i| !Self::is_ghost(i)).count() as u64
+    }
+
+    pub fn queued_blocks(&self) -> u64 {
+        self.main_queue.as_ref().map_or(0, QueueShape::blocks)
+    }
+
+    /// All blocks of the container.
+    pub fn blocks(&self) -> u64 {
+        let areas = self.descriptor_blocks() + self.data_blocks() + self.bitmap_blocks() + self.pool_blocks();
+        2 + areas + self.object_map.nodes() + self.volumes() + self.queued_blocks() + self.free
+    }
+}

@@ -1,0 +1,259 @@
+//! Lists the objects of a container with their fields, so that damage can name what it changes.
+//!
+//! The container is a sound one, built here or by mkapfs; what a survey can't follow it leaves out.
+
+use crate::fields::*;
+use crate::model::{self, Blocks, Notes, Taken};
+pub use crate::role::Role;
+
+#[derive(Clone, Debug)]
+pub struct Object {
+    pub role: Role,
+    /// Its blocks in order.
+    pub blocks: Vec<u64>,
+    pub length: usize,
+    /// Offsets count from the object's first byte.
+    pub fields: Vec<Field>,
+    /// In a bitmap, the bits that count.
+    pub bits: u64,
+}
+
+pub struct Survey {
+    pub block_size: usize,
+    pub count: u64,
+    pub objects: Vec<Object>,
+    /// The ids that the checkpoint map has.
+    pub ids: Vec<u64>,
+    /// Properties of the shape, for the table of coverage.
+    pub features: Vec<String>,
+}
+
+impl Survey {
+    pub fn of(image: &[u8]) -> Option<Self> {
+        let (blocks, taken) = model::open(image, usize::MAX, &mut Notes::default()).ok()?;
+        let ids = taken.map.iter().map(|m| m.id).collect();
+        let (objects, features) = (Vec::new(), Vec::new());
+        let survey = Survey { block_size: blocks.size, count: blocks.count, objects, ids, features };
+        let mut surveyor = Surveyor { blocks, taken, survey };
+        surveyor.descriptors(image);
+        surveyor.manager()?;
+        surveyor.object_map()?;
+        Some(surveyor.survey)
+    }
+
+    pub fn with_role(&self, role: Role) -> Vec<&Object> {
+        self.objects.iter().filter(|o| o.role == role).collect()
+    }
+}
+
+struct Surveyor<'a> {
+    blocks: Blocks<'a>,
+    taken: Taken<'a>,
+    survey: Survey,
+}
+
+/// Fields of a list's `i`th structure of `length` bytes, the list beginning at `at`.
+fn repeated(fields: &[Field], at: usize, i: usize, length: usize) -> impl Iterator<Item = Field> + '_ {
+    fields.iter().map(move |f| f.shifted(at + i * length))
+}
+
+/// The members of a list of the manager, which names its place and its length in fields.
+fn listed(bytes: &[u8], name: &'static str, offset: Field, count: Field, width: usize) -> Vec<Field> {
+    let at = offset.of(bytes) as usize;
+    (0..count.of(bytes) as usize).map(|i| Field { name, at: at + i * width, width }).collect()
+}
+
+impl Surveyor<'_> {
+    fn add(&mut self, role: Role, address: u64, fields: Vec<Field>) {
+        self.add_bits(role, address, fields, 0);
+    }
+
+    fn add_bits(&mut self, role: Role, address: u64, fields: Vec<Field>, bits: u64) {
+        self.survey.objects.push(Object { role, blocks: vec![address], length: self.blocks.size, fields, bits });
+    }
+
+    fn feature(&mut self, test: bool, name: impl Into<String>) {
+        if test {
+            self.survey.features.push(name.into());
+        }
+    }
+
+    /// Block 0 and the area that it names.
+    fn descriptors(&mut self, image: &[u8]) {
+        let fields = [&[object::XID, object::TYPE], superblock::ALL].concat();
+        self.add(Role::BlockZero, 0, fields.clone());
+        let (base, ring) = (superblock::DESCRIPTOR_BASE.of(image), superblock::DESCRIPTOR_BLOCKS.of(image));
+        let mut xids = Vec::new();
+        for address in base..base + ring {
+            let Ok(block) = self.blocks.raw(address) else { continue };
+            match object::KIND.of(block) {
+                object::SUPERBLOCK => {
+                    xids.push(object::XID.of(block));
+                    self.add(Role::Superblock, address, fields.clone());
+                }
+                object::CHECKPOINT_MAP => self.checkpoint_map(address, block),
+                _ => {}
+            }
+        }
+        let sb = self.taken.superblock;
+        let (index, length) = (superblock::DESCRIPTOR_INDEX.of(sb), superblock::DESCRIPTOR_LENGTH.of(sb));
+        self.feature(true, format!("block size {}", self.blocks.size));
+        self.feature(xids.len() > 1, "several checkpoints");
+        self.feature(xids.iter().max() > Some(&object::XID.of(sb)), "an older checkpoint taken");
+        self.feature(xids.iter().filter(|&&x| x == object::XID.of(sb)).count() > 1, "equal xids");
+        self.feature(length > 2, "chain over several blocks");
+        self.feature(length > 1 && index + length - 1 > ring, "chain wraps");
+    }
+
+    fn checkpoint_map(&mut self, address: u64, block: &[u8]) {
+        let mut fields = [&[object::XID, object::TYPE], checkpoint_map::ALL].concat();
+        for i in 0..checkpoint_map::COUNT.of(block) as usize {
+            fields.extend(repeated(mapping::ALL, checkpoint_map::ENTRIES, i, checkpoint_map::ENTRY));
+        }
+        self.add(Role::CheckpointMap, address, fields);
+    }
+
+    /// The manager's blocks around the data ring, and its length.
+    fn manager_place(&self) -> Option<(Vec<u64>, usize)> {
+        let sb = self.taken.superblock;
+        let mapping = self.taken.lookup(superblock::MANAGER_ID.of(sb))?;
+        let (base, ring) = (superblock::DATA_BASE.of(sb), superblock::DATA_BLOCKS.of(sb));
+        let first = mapping.address.checked_sub(base)?;
+        let count = mapping.size.div_ceil(self.blocks.size as u64);
+        Some(((0..count).map(|i| base + (first + i) % ring).collect(), mapping.size as usize))
+    }
+
+    fn manager(&mut self) -> Option<()> {
+        let (blocks, length) = self.manager_place()?;
+        let bytes = blocks.iter().map(|&a| self.blocks.raw(a).ok()).collect::<Option<Vec<_>>>()?.concat();
+        let indices =
+            listed(&bytes, "bitmap index", manager::INDEX_OFFSET, manager::BITMAP_SLOTS, manager::INDEX_WIDTH);
+        let (offset, count) = (manager::CHUNK_INFO_OFFSET, manager::CHUNK_INFO_COUNT);
+        let infos = listed(&bytes, "chunk-info address", offset, count, manager::ADDRESS_WIDTH);
+        self.feature(blocks.len() > 1, "manager over several blocks");
+        self.feature(blocks.windows(2).any(|w| w[1] < w[0]), "manager wraps");
+        self.feature(indices.len() > 1, "pool bitmap of several blocks");
+        self.feature(infos.len() > 1, "several chunk-info blocks");
+        let fields = [manager::ALL, &indices, &infos].concat();
+        self.survey.objects.push(Object { role: Role::Manager, blocks, length, fields, bits: 0 });
+        let (base, pool) = (manager::BITMAP_BASE.of(&bytes), manager::POOL_COUNT.of(&bytes));
+        for index in indices {
+            self.add_bits(Role::PoolBitmap, base + index.of(&bytes), Vec::new(), pool);
+        }
+        infos.iter().try_for_each(|info| self.chunk_info(info.of(&bytes)))?;
+        self.queue(Role::PoolQueueNode, manager::POOL_QUEUE.of(&bytes));
+        self.queue(Role::MainQueueNode, manager::MAIN_QUEUE.of(&bytes));
+        Some(())
+    }
+
+    fn chunk_info(&mut self, address: u64) -> Option<()> {
+        let block = self.blocks.raw(address).ok()?;
+        let mut fields = chunk_info::ALL.to_vec();
+        for i in 0..chunk_info::COUNT.of(block) as usize {
+            let at = chunk_info::RECORDS + i * chunk_info::RECORD;
+            fields.extend(chunk::ALL.iter().map(|f| f.shifted(at)));
+            let bitmap = chunk::BITMAP.shifted(at).of(block);
+            let blocks = chunk::BLOCKS.shifted(at).of(block) & chunk::COUNT_MASK;
+            self.feature(blocks == 0, "chunk of no blocks");
+            if bitmap != 0 {
+                self.add_bits(Role::ChunkBitmap, bitmap, Vec::new(), blocks);
+            }
+        }
+        self.add(Role::ChunkInfo, address, fields);
+        Some(())
+    }
+
+    fn object_map(&mut self) -> Option<()> {
+        let address = superblock::OBJECT_MAP.of(self.taken.superblock);
+        let block = self.blocks.raw(address).ok()?;
+        self.add(Role::ObjectMap, address, [&[object::TYPE], object_map::ALL].concat());
+        let levels = self.tree(Role::ObjectMapNode, object_map::ROOT.of(block))?;
+        self.feature(true, format!("object map of {levels} level(s)"));
+        Some(())
+    }
+
+    fn queue(&mut self, role: Role, id: u64) {
+        let Some(root) = self.taken.lookup(id).map(|m| m.address) else { return };
+        if let Some(levels) = self.tree(role, root) {
+            self.feature(true, format!("queue of {levels} level(s)"));
+        }
+    }
+
+    /// A node and those below it; gives the number of levels.
+    fn tree(&mut self, role: Role, address: u64) -> Option<u64> {
+        let bytes = self.blocks.raw(address).ok()?;
+        let NodeFields { mut fields, children } = NodeFields::of(role, bytes);
+        let flags = node::FLAGS.of(bytes);
+        if flags & node::ROOT != 0 {
+            fields.extend(description::ALL.iter().map(|f| f.shifted(bytes.len() - description::LENGTH)));
+        }
+        self.feature(flags & node::FIXED != 0, "node of fixed sizes");
+        self.feature(flags & node::FIXED == 0, "node of variable sizes");
+        self.node_features(role, bytes, &fields);
+        self.add(role, address, fields);
+        let mut below = 0;
+        for pointer in children {
+            let child =
+                if role == Role::ObjectMapNode { Some(pointer) } else { self.taken.lookup(pointer).map(|m| m.address) };
+            below = self.tree(role, child?)?.max(below);
+        }
+        Some(below + 1)
+    }
+
+    fn node_features(&mut self, role: Role, bytes: &[u8], fields: &[Field]) {
+        let ghost = fields.iter().any(|f| f.name == fixed_slot::VALUE.name && f.of(bytes) == node::GHOST);
+        let empty = fields.iter().any(|f| f.name == queue::COUNT.name && f.of(bytes) == 0);
+        let tree = if role == Role::ObjectMapNode { "object map" } else { "queue" };
+        self.feature(ghost, format!("{tree} with ghosts"));
+        self.feature(empty, "queue entry of count 0");
+        let deleted = fields.iter().any(|f| f.name == mapped::FLAGS.name && f.of(bytes) & mapped::DELETED != 0);
+        self.feature(deleted, "object map with deleted mappings");
+    }
+}
+
+/// The fields of a node, those in its keys and values too, and its child pointers.
+struct NodeFields {
+    fields: Vec<Field>,
+    children: Vec<u64>,
+}
+
+impl NodeFields {
+    fn of(role: Role, bytes: &[u8]) -> Self {
+        let mut out = NodeFields { fields: [&[object::TYPE], node::ALL].concat(), children: Vec::new() };
+        let flags = node::FLAGS.of(bytes);
+        let leaf = flags & node::LEAF != 0;
+        let table = node::DATA + node::TABLE_OFFSET.of(bytes) as usize;
+        let key_area = table + node::TABLE_LENGTH.of(bytes) as usize;
+        let value_end = bytes.len() - if flags & node::ROOT != 0 { description::LENGTH } else { 0 };
+        let (slots, slot) = if flags & node::FIXED != 0 {
+            (fixed_slot::ALL, fixed_slot::LENGTH)
+        } else {
+            (variable_slot::ALL, variable_slot::LENGTH)
+        };
+        for i in 0..node::KEYS.of(bytes) as usize {
+            let slots: Vec<Field> = repeated(slots, table, i, slot).collect();
+            // Both kinds of slot have these, by the same names.
+            let part = |name: &str| slots.iter().find(|f| f.name == name).map(|f| f.of(bytes) as usize);
+            let key = key_area + part(fixed_slot::KEY.name).unwrap_or(0);
+            let value = part(fixed_slot::VALUE.name).filter(|&v| v as u64 != node::GHOST).map(|v| value_end - v);
+            out.fields.extend(&slots);
+            out.contents(role, bytes, leaf, key, value);
+        }
+        out
+    }
+
+    /// What an entry's key and value hold.
+    fn contents(&mut self, role: Role, bytes: &[u8], leaf: bool, key: usize, value: Option<usize>) {
+        const CHILD: Field = Field { name: "child pointer", at: 0, width: node::POINTER };
+        if !leaf {
+            let Some(pointer) = value.map(|v| CHILD.shifted(v)) else { return };
+            self.fields.push(pointer);
+            self.children.push(pointer.of(bytes));
+        } else if role == Role::ObjectMapNode {
+            self.fields.extend(value.into_iter().flat_map(|v| [mapped::FLAGS, mapped::ADDRESS].map(|f| f.shifted(v))));
+        } else {
+            self.fields.push(queue::ADDRESS.shifted(key));
+            self.fields.extend(value.map(|v| queue::COUNT.shifted(v)));
+        }
+    }
+}
