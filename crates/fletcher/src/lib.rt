@@ -1,10 +1,10 @@
 // Fletcher-64 over 32-bit little-endian words, modulo 2^32 - 1 (checksum.rs).
-ghost use mathlib.Core.List.{[]};
+ghost use mathlib.Core.List.{[], _++_};
 ghost use mathlib.Core.Path.{_≡_};
-ghost use Prim.Native.Nat.{_+_, _≤_, _<_, _^_};
+ghost use Prim.Native.Nat.{_+_, _%_, _≤_, _<_, _^_};
 ghost use lib.ListN.{length};
 ghost use Rattle.fletcher.specs.Fletcher.{seal as sealOf, checksum as checksumOf, verifies};
-ghost use Rattle.fletcher.specs.Pieces.{Added, Short, wordAt};
+ghost use Rattle.fletcher.specs.Pieces.{wordAt, Reduced, Added, Plus, Halves};
 
 const M: u64 = 4294967295;
 
@@ -40,20 +40,64 @@ fn reduced(sums: Sums) -> Sums
     }
 }
 
-// At most 1,024 words, so that one reduction at the end is enough.
-fn add_short(piece: &[u8], sums: Sums) -> Sums
-    requires { ⌜ Short (now piece) sums ⌝ }
-    ensures { λ r. ⌜ Added (now (piece .entry)) sums r ⌝ }
+// The word at a place, added.
+fn plus(bytes: &[u8], at: usize, sums: Sums) -> Sums
+    requires { ⌜ (at + 4 ≤ length (now bytes)) × (sums .s < 2 ^ 62) × (sums .t < 2 ^ 62) ⌝ }
+    ensures { λ r. ⌜ Plus (now (bytes .entry)) at sums r ⌝ }
 {
-    let mut s = sums.s;
-    let mut t = sums.t;
+    let s = sums.s + word_at(bytes, at);
+    Sums { s, t: sums.t + s }
+}
+
+// Two halves at once, so that neither's sums wait for the other's. The first's sum counts once more for each word of the second.
+fn add_halves(first: &[u8], second: &[u8], sums: Sums) -> Sums
+    requires { ⌜ Halves (now first) (now second) × Reduced sums ⌝ }
+    ensures { λ r. ⌜ Added (now (first .entry) ++ now (second .entry)) sums r ⌝ }
+{
+    let mut a = sums;
+    let mut b = Sums { s: 0, t: 0 };
     let mut at = 0;
-    while at + 4 <= piece.len() {
-        s += word_at(piece, at);
-        t += s;
+    while at != first.len() {
+        a = plus(first, at, a);
+        b = plus(second, at, b);
+        a = plus(first, at + 4, a);
+        b = plus(second, at + 4, b);
+        at += 8;
+    }
+    let words = (at / 4) as u64;
+    let s = a.s + b.s;
+    let t = a.t + (words * a.s + b.t);
+    reduced(Sums { s, t })
+}
+
+fn add_block(block: &[u8], sums: Sums) -> Sums
+    requires { ⌜ (length (now block) % 16 ≡ 0) × (length (now block) ≤ 4096) × Reduced sums ⌝ }
+    ensures { λ r. ⌜ Added (now (block .entry)) sums r ⌝ }
+{
+    let half = block.len() / 2;
+    add_halves(&block[..half], &block[half..], sums)
+}
+
+// How many of the bytes left make the next block: at most 1,024 words, a multiple of 4 of them.
+fn block_length(left: usize) -> usize
+    requires { ⌜ 16 ≤ left ⌝ }
+    ensures { λ r. ⌜ (16 ≤ r) × (r ≤ left) × (r ≤ 4096) × (r % 16 ≡ 0) ⌝ }
+{
+    if left < 4096 { left / 16 * 16 } else { 4096 }
+}
+
+// What is left after the blocks.
+fn add_rest(rest: &[u8], sums: Sums) -> Sums
+    requires { ⌜ (length (now rest) < 16) × Reduced sums ⌝ }
+    ensures { λ r. ⌜ Added (now (rest .entry)) sums r ⌝ }
+{
+    let mut sums = sums;
+    let mut at = 0;
+    while at + 4 <= rest.len() {
+        sums = plus(rest, at, sums);
         at += 4;
     }
-    reduced(Sums { s, t })
+    reduced(sums)
 }
 
 // The sums after the words of a piece; one to three bytes at its end that make no word aren't looked at.
@@ -62,11 +106,12 @@ pub fn add(piece: &[u8], sums: Sums) -> Sums
 {
     let mut sums = reduced(sums);
     let mut at = 0;
-    while at + 4096 <= piece.len() {
-        sums = add_short(&piece[at..at + 4096], sums);
-        at += 4096;
+    while at + 16 <= piece.len() {
+        let end = at + block_length(piece.len() - at);
+        sums = add_block(&piece[at..end], sums);
+        at = end;
     }
-    add_short(&piece[at..], sums)
+    add_rest(&piece[at..], sums)
 }
 
 // What bytes 0 to 7 should hold, from the sums.

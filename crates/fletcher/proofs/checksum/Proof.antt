@@ -8,16 +8,10 @@ use Rattle.fletcher.proofs.Laws.{added-seal, part-end}
 use borrow.Author.Needs.{needs}
 use Rattle.fletcher.proofs.checksum.Statement.{statement}
 use Rattle.fletcher.proofs.checksum.Tie as tie
-use Rattle.fletcher.proofs.checksum.Reads as reads
-use Rattle.fletcher.proofs.checksum.Lts as lts
-use Rattle.fletcher.proofs.add.Reads as add-reads
-use Rattle.fletcher.proofs.seal.Reads as seal-reads
 
--- src/lib.rt:84:9
 seal-requires : tie.Need-seal-requires
 seal-requires c κs = search needs
 
--- src/lib.rt:84:9
 returns : tie.Need-returns
 unfolding checksum fletcher
 returns c =
@@ -25,27 +19,21 @@ returns c =
     let h : length b ≤ 8 = omega arith in
     c .seal .ensures ∙ ap (λ (l : List ℕ). fletcher l 0 0) (sym (drop-of-length-le b h))
 
--- src/lib.rt:86:14
 sub-add : tie.Need-sub-add
 sub-add c = search needs
 
--- src/lib.rt:86:14
 part-add-start : tie.Need-part-add-start
 part-add-start c = search needs
 
--- src/lib.rt:86:14
 part-add-end : tie.Need-part-add-end
 part-add-end c = search needs
 
--- src/lib.rt:86:10
 add-requires : tie.Need-add-requires
 add-requires c κs = search needs
 
--- src/lib.rt:86:5
 seal-requires-2 : tie.Need-seal-requires-2
 seal-requires-2 c κs = search needs
 
--- src/lib.rt:79:1
 returns-2 : tie.Need-returns-2
 unfolding checksum
 returns-2 c = c .seal2 .ensures ∙ added-seal _ _ _ (rw part-end at (c .before .add .ensures))

@@ -3,12 +3,10 @@ use Rattle.fletcher.specs.Pieces.{words}
 use borrow.Author.Needs.{needs}
 use Rattle.fletcher.proofs.reduced.Statement.{statement}
 use Rattle.fletcher.proofs.reduced.Tie as tie
-use Rattle.fletcher.proofs.reduced.Reads as reads
-use Rattle.fletcher.proofs.reduced.Lts as lts
 
 returns : tie.Need-returns
 unfolding words
-returns c = record { onward = λ rest. fletcher-reduced rest _ _; s-fits = search needs; t-fits = search needs }
+returns c = record { onward = λ rest. fletcher-reduced rest _ _; fits = search needs }
 
 pub reduced-spec : {M : Type 1} → statement M
 reduced-spec = tie.close (tie.spec returns)
