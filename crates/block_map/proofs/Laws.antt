@@ -1,19 +1,16 @@
 -- Laws of the block map's bytes.
+use mathlib.Core.Bool.{false}
 use mathlib.Core.List.{List, [], _∷_}
 use mathlib.Core.Path.{_≡_, refl, sym, ap, _∙_}
-use Prim.Native.Nat.{ℕ, zero, suc, _+_, _-_, _/_, _^_}
+use Prim.Native.Nat.{ℕ, zero, suc, _+_, _-_, _/_, _%_, _^_, _≤_, _<_}
 use native.Mathlib.Nat.{add-comm}
 use native.Mathlib.Omega.{arith}
-use lib.Bits.{bitAnd, bitOr, or-add-and, and-high, and-mask}
-use lib.Dec.{eqb}
+use lib.Bits.{bitAnd, bitOr, or-add-and, or-shifted, and-high, and-mask}
 use lib.ListN.{getD, set}
 use lib.Pow.{split, high-ones, mod-pow-add}
-use Rattle.fields.specs.Fields.{bit}
-use Rattle.block_map.specs.BlockMap.{withBit, update}
-
--- bit k read by a shift
-pub bit-read : (k x : ℕ) → eqb (bitAnd (x / 2 ^ k) 1) 1 ≡ bit k x
-bit-read k x = rw (and-mask (x / 2 ^ k) 1)
+use borrow.Author.Tests.{lt-ltb, le-ltb}
+use Rattle.blocks.specs.declared.Container.{Container}
+use Rattle.block_map.specs.BlockMap.{isUsed, withBit, ownedBy, update, usedAt}
 
 -- bit k set by an or
 pub bit-set : (k x : ℕ) → bitOr x (2 ^ k) ≡ withBit k x
@@ -22,12 +19,26 @@ bit-set k x = rw (add-comm k 1) (omega (arith, or-add-and x (2 ^ k), sym (ap (bi
     one : 2 ^ (1 + k) - 2 ^ k ≡ 2 ^ k
     one = omega (arith, high-ones 1 k)
 
+-- the owner's four bits put in place of the old ones
+pub owner-set : (x kind : ℕ) → x < 256 → bitOr (bitAnd x 240) (bitAnd kind 15) ≡ ownedBy (kind % 16) x
+owner-set x kind h = rw (and-high x 4 4, and-mask kind 4) (or-shifted (x / 16 % 16) 4 (kind % 16) (omega arith) ∙ omega arith)
+
 -- a byte changed is a byte read and written back; past the map's end there is none
 pub update-set : (f : ℕ → ℕ) (a : ℕ) (map : List ℕ) → update f a map ≡ set map a (f (getD map a 0))
 unfolding update
 update-set f a [] = refl
 update-set f zero (x ∷ map) = refl
 update-set f (suc a) (x ∷ map) = ap (λ (l : List ℕ). x ∷ l) (update-set f a map)
+
+-- block a below the count, and past it
+module _ (c : Container) (map : List ℕ) (a : ℕ) where
+  pub used-inside : a < c .count → isUsed (getD map a 0) ≡ usedAt c map a
+  unfolding usedAt
+  used-inside h = rw (lt-ltb a (c .count) h) refl
+
+  pub used-outside : c .count ≤ a → false ≡ usedAt c map a
+  unfolding usedAt
+  used-outside h = rw (le-ltb a (c .count) h) refl
 
 -- from what a write, a change and a read ensure
 pub updated : (f : ℕ → ℕ) (a : ℕ) (map after : List ℕ) (x y : ℕ) → after ≡ set map a y → y ≡ f x → x ≡ getD map a 0 → after ≡ update f a map

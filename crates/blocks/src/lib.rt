@@ -136,7 +136,7 @@ pub enum Added {
 pub fn add(a: u64, b: u64) -> Added
     ensures { λ r. ⌜ ((f : ℕ → List ℕ) → r ≡ addedOf (run f (sum a b))) ⌝ }
 {
-    if 18446744073709551615 - a < b {
+    if u64::MAX - a < b {
         Added::Refused(Refusal::Overflow)
     } else {
         Added::To(a + b)

@@ -5,12 +5,14 @@ use mathlib.Core.List.{List, [], _∷_}
 use Prim.Native.Nat.{ℕ, zero, suc, _+_, _-_, _*_, _/_, _%_, _^_, _≤_, _<_}
 use native.Mathlib.Nat.{lt-of-lt-of-le, le-of-suc-le-suc, not-suc-le-zero, zero-div}
 use native.Mathlib.Omega.{arith}
+use lib.Bits.{bitAnd, and-mask}
 use lib.Dec.{eqb}
 use lib.ListN.{length, getD, take, drop, length-drop}
 use lib.Seq.{drop-nil, take-nil, take-all}
 use lib.Pow.{pow-add, pow-mono}
 use borrow.Author.Tests.{le-leb, lt-leb}
-use Rattle.fields.specs.Fields.{Number, FieldOf, le, num, fieldAt, bitAt}
+use Rattle.fields.specs.Fields.{Number, FieldOf, le, num, fieldAt, bit, bitAt}
+use Rattle.fields.specs.declared.Field.{Field}
 use Rattle.fields.specs.declared.Field.the-variants.{Value, Absent}
 
 num-nil : (w off : ℕ) → num w [] off ≡ 0
@@ -63,6 +65,10 @@ past-end [] i h = refl
 past-end (x ∷ b) zero h = absurd (not-suc-le-zero h)
 past-end (x ∷ b) (suc i) h = past-end b i (le-of-suc-le-suc h)
 
+-- bit k read by a shift
+pub bit-read : (k x : ℕ) → eqb (bitAnd (x / 2 ^ k) 1) 1 ≡ bit k x
+bit-read k x = rw (and-mask (x / 2 ^ k) 1)
+
 pub bit-past : (b : List ℕ) (i : ℕ) → length b ≤ i / 8 → bitAt b i ≡ false
 unfolding bitAt
 bit-past b i h = rw (past-end b (i / 8) h) (zero-bit (2 ^ (i % 8)))
@@ -98,3 +104,7 @@ absent-of w b off h = record { is = sym (field-absent w b off h); fits = λ v e.
   where
     nothing : (v : ℕ) → Absent ≡ Value v → v < 2 ^ (8 * w)
     nothing v e = let z : _≡_ {A = ℕ} 0 1 = cc in absurd (omega arith)
+
+-- a field of the bytes that a part is
+pub field-in : (w : ℕ) (b part : List ℕ) (off : ℕ) (r : Field) → b ≡ part → FieldOf w b off r → FieldOf w part off r
+field-in w b part off r e h = rw (← e) h

@@ -5,6 +5,13 @@ ghost use lib.ListN.{length, getD, take, drop};
 ghost use Rattle.fields.specs.Fields.{Number, FieldOf, bitAt};
 ghost use Rattle.fields.specs.Header.{storedChecksum, xidOf, kindOf};
 
+// Offsets in an object's header.
+const CHECKSUM: usize = 0;
+
+const XID: usize = 16;
+
+const TYPE: usize = 24;
+
 // What stands at a place: a number, or nothing where the field isn't wholly inside its bytes.
 pub enum Field {
     Value(u64),
@@ -120,19 +127,19 @@ pub fn u64_in(s: &[u8], start: usize, len: usize, at: usize) -> Field
 pub fn stored_checksum(object: &[u8]) -> u64
     ensures { λ r. ⌜ r ≡ storedChecksum (now (object .entry)) ⌝ }
 {
-    u64_of(object, 0)
+    u64_of(object, CHECKSUM)
 }
 
 pub fn xid(object: &[u8]) -> u64
     ensures { λ r. ⌜ r ≡ xidOf (now (object .entry)) ⌝ }
 {
-    u64_of(object, 16)
+    u64_of(object, XID)
 }
 
 pub fn kind(object: &[u8]) -> u64
     ensures { λ r. ⌜ r ≡ kindOf (now (object .entry)) ⌝ }
 {
-    u32_of(object, 24) % 65536
+    u32_of(object, TYPE) % 65536
 }
 
 // Bit i of a bitmap, the lowest bit of a byte first; bits past the end are 0.

@@ -1,13 +1,17 @@
 -- Laws of the sums: they count modulo M alone, one word more, and a piece after a piece.
 use mathlib.Core.Path.{_≡_, refl, sym, ap, ap₂, subst, _∙_}
+use mathlib.Core.Bool.{false}
 use mathlib.Core.List.{List, [], _∷_, _++_, append-assoc}
 use Prim.Native.Nat.{ℕ, suc, _+_, _-_, _*_, _/_, _%_, _^_, _≤_, _<_}
 use native.Mathlib.Nat.{add-mod, mod-mod, mul-add, add-mul, mul-le-mul}
 use native.Mathlib.Numerals.{towards-suc}
 use native.Mathlib.Omega.{arith}
 use lib.ListN.{length, getD, take, drop, length-append, length-drop, length-take, take-append-drop}
+use lib.Dec.{eqb}
 use lib.Seq.{drop-cons, take-all, take-append-add, drop-drop}
-use Rattle.fletcher.specs.Fletcher.{M, word, low, seal, fletcher}
+use borrow.Author.Tests.{le-leb, lt-leb, eq-eqb, ne-eqb}
+use Rattle.fields.specs.Header.{storedChecksum}
+use Rattle.fletcher.specs.Fletcher.{M, word, low, seal, fletcher, checksum, verifies}
 use Rattle.fletcher.specs.Pieces.{words, wordAt, plusWord, Reduced, Added, Plus}
 use Rattle.fletcher.specs.declared.Sums.{Sums}
 
@@ -192,3 +196,17 @@ added-seal b x r added = added .onward [] ∙ fletcher-words b _ _
 
 pub pieces-seal : (p q : List ℕ) (x y z : Sums) → length p % 4 ≡ 0 → Added p x y → Added q y z → seal (z .s) (z .t) ≡ fletcher (p ++ q) (x .s) (x .t)
 pieces-seal p q x y z h first second = added-seal (p ++ q) x z (added-then p q x y z h first second)
+
+-- an object too short, one that is no whole words, and any other
+
+pub verifies-short : (b : List ℕ) → length b < 32 → false ≡ verifies b
+unfolding verifies
+verifies-short b h = simp (lt-leb 32 (length b) h)
+
+pub verifies-uneven : (b : List ℕ) → 32 ≤ length b → 0 < length b % 4 → false ≡ verifies b
+unfolding verifies
+verifies-uneven b h k = simp (le-leb 32 (length b) h, ne-eqb (length b % 4) 0 (λ e. absurd (omega arith)))
+
+pub verifies-whole : (b : List ℕ) → 32 ≤ length b → length b % 4 ≡ 0 → eqb (storedChecksum b) (checksum b) ≡ verifies b
+unfolding verifies
+verifies-whole b h e = simp (le-leb 32 (length b) h, eq-eqb (length b % 4) 0 e)

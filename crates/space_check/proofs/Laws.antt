@@ -8,10 +8,10 @@ use Rattle.space_check.specs.Pool.{Pool, poolIndex, poolMarked}
 
 -- block a, the i-th of the pool, inside it and outside
 module _ (p : Pool) (a i : ℕ) (e : i ≡ poolIndex a (p .base)) where
-  pub pool-inside : i < p .blocks → poolMarked p a ≡ bitAt (p .bits) i
+  pub pool-inside : i < p .blocks → bitAt (p .bits) i ≡ poolMarked p a
   unfolding poolMarked
   pool-inside h = rw (← e, lt-ltb i (p .blocks) h) refl
 
-  pub pool-outside : p .blocks ≤ i → poolMarked p a ≡ false
+  pub pool-outside : p .blocks ≤ i → false ≡ poolMarked p a
   unfolding poolMarked
   pool-outside h = rw (← e, le-ltb i (p .blocks) h) refl

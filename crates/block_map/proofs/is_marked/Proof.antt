@@ -1,4 +1,4 @@
-use Rattle.block_map.proofs.Laws.{bit-read}
+use Rattle.fields.proofs.Laws.{bit-read}
 use Rattle.block_map.proofs.is_marked.Statement.{statement}
 use Rattle.block_map.proofs.is_marked.Tie as tie
 

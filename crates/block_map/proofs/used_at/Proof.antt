@@ -1,7 +1,7 @@
 use mathlib.Core.Path.{ap, _∙_}
 use borrow.Author.Needs.{needs}
-use borrow.Author.Tests.{lt-ltb, le-ltb}
-use Rattle.block_map.specs.BlockMap.{isUsed, usedAt}
+use Rattle.block_map.specs.BlockMap.{isUsed}
+use Rattle.block_map.proofs.Laws.{used-inside, used-outside}
 use Rattle.block_map.proofs.used_at.Statement.{statement}
 use Rattle.block_map.proofs.used_at.Tie as tie
 
@@ -12,12 +12,10 @@ is-used-requires : tie.Need-is-used-requires
 is-used-requires c κs = search needs
 
 returns : tie.Need-returns
-unfolding usedAt
-returns c = rw (lt-ltb _ _ (c .before .before .if1 .taken)) (c .is-used .ensures ∙ ap isUsed (c .before .cell .ensures))
+returns c = c .is-used .ensures ∙ (ap isUsed (c .before .cell .ensures) ∙ used-inside _ _ _ (search needs))
 
 returns-2 : tie.Need-returns-2
-unfolding usedAt
-returns-2 c = rw (le-ltb _ _ (c .if1 .left))
+returns-2 c = used-outside _ _ _ (search needs)
 
 pub used-at-spec : {M : Type 1} → statement M
 used-at-spec = tie.close (tie.spec cell-requires is-used-requires returns returns-2)

@@ -1,7 +1,8 @@
-use Rattle.fields.proofs.Laws.{bit-past}
+use Rattle.fields.proofs.Laws.{bit-read, bit-past}
 use Rattle.fields.specs.Fields.{bitAt}
-use lib.Bits.{and-mask}
+use lib.ListN.{getD}
 use mathlib.Core.Path.{sym}
+use Prim.Native.Nat.{_/_, _%_}
 use borrow.Author.Needs.{needs}
 use Rattle.fields.proofs.bit_at.Statement.{statement}
 use Rattle.fields.proofs.bit_at.Tie as tie
@@ -20,7 +21,9 @@ shr-result c = search needs
 
 returns-2 : tie.Need-returns-2
 unfolding bitAt
-returns-2 c = rw (and-mask _ 1)
+returns-2 c =
+    let start = c .before .before .args in
+    bit-read (start .i % 8) (getD (start .bitmap .now) (start .i / 8) 0)
 
 pub bit-at-spec : {M : Type 1} → statement M
 bit-at-spec = tie.close (tie.spec returns cast-k shared-slice-read-b shr-result returns-2)

@@ -29,13 +29,13 @@ loop-less : tie.Need-loop-less Inv-loop μ-loop
 loop-less c = search needs
 
 loop-again : tie.Need-loop-again Inv-loop μ-loop
-loop-again c = (search needs, half-more _ _ _ _ _ _ refl (c .before .loop-test .taken) (search needs) (c .before .before .loop .inv .1) (c .plus .ensures))
+loop-again c = (search needs, half-more _ _ _ _ _ _ refl (search needs) (search needs) (c .before .before .loop .inv .1) (c .plus .ensures))
 
 reduced-requires : tie.Need-reduced-requires Inv-loop μ-loop
 reduced-requires c κs = search needs
 
 returns : tie.Need-returns Inv-loop μ-loop
-returns c = added-run _ _ _ _ (half-done _ _ _ _ (c .before .before .loop .inv .1) (c .before .loop-test .left)) (c .reduced .ensures)
+returns c = added-run _ _ _ _ (half-done _ _ _ _ (c .before .before .loop .inv .1) (search needs)) (c .reduced .ensures)
 
 pub add-rest-spec : {M : Type 1} → statement M
 add-rest-spec =

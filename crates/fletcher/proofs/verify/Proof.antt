@@ -1,17 +1,16 @@
-use mathlib.Core.Path.{_≡_}
-use borrow.Author.Tests.{le-leb, lt-leb, eq-eqb, ne-eqb}
-use Rattle.fletcher.specs.Fletcher.{verifies}
+use mathlib.Core.Path.{ap₂, _∙_}
+use native.Mathlib.Omega.{arith}
+use lib.Dec.{eqb}
+use Rattle.fletcher.proofs.Laws.{verifies-short, verifies-uneven, verifies-whole}
 use borrow.Author.Needs.{needs}
 use Rattle.fletcher.proofs.verify.Statement.{statement}
 use Rattle.fletcher.proofs.verify.Tie as tie
 
 returns : tie.Need-returns
-unfolding verifies
-returns c = simp (lt-leb _ _ (c .if1 .taken))
+returns c = verifies-short _ (omega arith)
 
 returns-2 : tie.Need-returns-2
-unfolding verifies
-returns-2 c = simp (le-leb _ _ (c .before .if1 .left), ne-eqb _ _ (c .if2 .taken))
+returns-2 c = verifies-uneven _ (omega arith) (omega arith)
 
 stored-checksum-requires : tie.Need-stored-checksum-requires
 stored-checksum-requires c κs = search needs
@@ -20,14 +19,7 @@ checksum-requires : tie.Need-checksum-requires
 checksum-requires c κs = search needs
 
 returns-3 : tie.Need-returns-3
-unfolding verifies
-returns-3 c =
-    simp (
-      le-leb _ _ (c .before .before .before .if1 .left),
-      eq-eqb _ _ (c .before .before .if2 .left),
-      c .before .stored-checksum .ensures,
-      c .checksum .ensures,
-    )
+returns-3 c = ap₂ eqb (c .before .stored-checksum .ensures) (c .checksum .ensures) ∙ verifies-whole _ (omega arith) (omega arith)
 
 pub verify-spec : {M : Type 1} → statement M
 verify-spec =
