@@ -1,16 +1,13 @@
 -- Laws of the block map's bytes.
-use mathlib.Core.Bool.{false}
 use mathlib.Core.List.{List, [], _∷_}
 use mathlib.Core.Path.{_≡_, refl, sym, ap, _∙_}
-use Prim.Native.Nat.{ℕ, zero, suc, _+_, _-_, _/_, _%_, _^_, _≤_, _<_}
+use Prim.Native.Nat.{ℕ, zero, suc, _+_, _-_, _/_, _%_, _^_, _<_}
 use native.Mathlib.Nat.{add-comm}
 use native.Mathlib.Omega.{arith}
 use lib.Bits.{bitAnd, bitOr, or-add-and, or-shifted, and-high, and-mask}
 use lib.ListN.{getD, set}
 use lib.Pow.{split, high-ones, mod-pow-add}
-use borrow.Author.Tests.{lt-ltb, le-ltb}
-use Rattle.blocks.specs.declared.Container.{Container}
-use Rattle.block_map.specs.BlockMap.{isUsed, withBit, ownedBy, update, usedAt}
+use Rattle.block_map.specs.BlockMap.{withBit, ownedBy, update}
 
 -- bit k set by an or
 pub bit-set : (k x : ℕ) → bitOr x (2 ^ k) ≡ withBit k x
@@ -29,16 +26,6 @@ unfolding update
 update-set f a [] = refl
 update-set f zero (x ∷ map) = refl
 update-set f (suc a) (x ∷ map) = ap (λ (l : List ℕ). x ∷ l) (update-set f a map)
-
--- block a below the count, and past it
-module _ (c : Container) (map : List ℕ) (a : ℕ) where
-  pub used-inside : a < c .count → isUsed (getD map a 0) ≡ usedAt c map a
-  unfolding usedAt
-  used-inside h = rw (lt-ltb a (c .count) h) refl
-
-  pub used-outside : c .count ≤ a → false ≡ usedAt c map a
-  unfolding usedAt
-  used-outside h = rw (le-ltb a (c .count) h) refl
 
 -- from what a write, a change and a read ensure
 pub updated : (f : ℕ → ℕ) (a : ℕ) (map after : List ℕ) (x y : ℕ) → after ≡ set map a y → y ≡ f x → x ≡ getD map a 0 → after ≡ update f a map

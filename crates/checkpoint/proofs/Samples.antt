@@ -1,7 +1,7 @@
 -- Refusals 1 to 11, in checking order: where two sentences hold at once, the first number is given.
 use mathlib.Core.Bool.{Bool}
 use mathlib.Core.List.{List, [], _∷_}
-use Prim.Native.Nat.{ℕ, _+_, _^_}
+use Prim.Native.Nat.{ℕ, _^_}
 use lib.Dec.{T, eqb}
 use Rattle.fields.specs.Fields.{le, num}
 use Rattle.fields.proofs.Rows.{row, blockFrom, every}

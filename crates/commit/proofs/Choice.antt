@@ -1,8 +1,7 @@
 -- The only sound superblock with the highest xid is tried first, and what the pass reads then.
-use mathlib.Core.Path.{_≡_, refl, sym, ap, _∙_}
+use mathlib.Core.Path.{_≡_, refl, ap, _∙_}
 use mathlib.Core.Bool.{Bool, true, false, _&&_}
 use mathlib.Core.List.{List, [], _∷_, _++_, append-nil}
-use mathlib.Core.Option.{Option, some, none}
 use mathlib.Core.Logic.{_≢_}
 use Prim.Native.Nat.{ℕ, zero, suc, _+_, _<_}
 use native.Mathlib.Omega.{arith}
@@ -12,8 +11,8 @@ use lib.ListN.{getD}
 use borrow.Author.Tests.{lt-ltb, le-ltb}
 use Rattle.fields.specs.Choice.{pick}
 use Rattle.fields.specs.Header.{xidOf}
-use Rattle.blocks.specs.Reads.{Reads, done, refuse, read, _>>=_, run, visits, Outcome, given, refused}
-use Rattle.blocks.proofs.Laws.{andThen, visitsThen, run-bind, visits-bind}
+use Rattle.blocks.specs.Reads.{Reads, done, _>>=_, run, visits, Outcome, given}
+use Rattle.blocks.proofs.Laws.{andThen, run-bind, visits-bind}
 use Rattle.checkpoint.specs.Superblock.{sound}
 use Rattle.checkpoint.specs.Map.{chain}
 use Rattle.checkpoint.specs.Checkpoint.{Taken, areaFrom, isAfter, isAhead, bestFrom, loaded, try, tryFrom, takeSuperblock}

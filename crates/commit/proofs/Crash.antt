@@ -1,29 +1,28 @@
 -- The theorem of specs/Commit.antt: until the last store is complete the answer and the map are the old image's.
 use mathlib.Core.Path.{_≡_, refl, sym, ap, _∙_, subst}
-use mathlib.Core.Bool.{Bool, true, false, not, _&&_, _||_, true≢false}
+use mathlib.Core.Bool.{Bool, true, false, not, true≢false}
 use mathlib.Core.List.{List, [], _∷_, _++_, append-assoc}
 use mathlib.Core.Logic.{_≢_}
-use Prim.Native.Nat.{ℕ, zero, suc, _+_, _*_, _<_, _≤_}
+use Prim.Native.Nat.{ℕ, _+_, _<_, _≤_}
 use native.Mathlib.Omega.{arith}
 use native.Mathlib.Nat.{zero-mul}
-use lib.Dec.{leb, eqb}
-use lib.ListN.{length, take, drop}
+use lib.Dec.{leb}
+use lib.ListN.{length, take}
 use lib.Seq.{take-take}
 use borrow.Author.Tests.{leb-true, leb-false, ne-eqb}
-use Rattle.fields.specs.Choice.{pick}
 use Rattle.fields.specs.Header.{xidOf}
-use Rattle.blocks.specs.Reads.{Reads, _>>=_, run, noBlocks, visits, Outcome, given}
+use Rattle.blocks.specs.Reads.{_>>=_, run, noBlocks, visits, given}
 use Rattle.blocks.specs.Blocks.{blockOf}
 use Rattle.blocks.proofs.Laws.{Agree, run-bind, visits-bind, local, need-held}
 use Rattle.checkpoint.specs.Superblock.{sound, blockSize}
 use Rattle.checkpoint.specs.Geometry.{geometry, sizeAllowed, leastSize}
 use Rattle.checkpoint.specs.Map.{chain}
-use Rattle.checkpoint.specs.Checkpoint.{Taken, takeSuperblock}
+use Rattle.checkpoint.specs.Checkpoint.{takeSuperblock}
 use Rattle.checkpoint.specs.declared.Geometry.{Geometry}
 use Rattle.checkpoint.specs.declared.Mapping.{Mapping}
-use Rattle.space_check.specs.Check.{Result, check, checkIn, settle, pass, rest}
-use Rattle.commit.specs.Stores.{Store, CutOf, blockTouched, finished, complete}
-use Rattle.commit.specs.Commit.{Takes, Rules, Limit, Runs, Crash, takenAt, kept, noneOf, runs, promised}
+use Rattle.space_check.specs.Check.{check, checkIn, settle, pass, rest}
+use Rattle.commit.specs.Stores.{Store, CutOf, blockTouched, complete}
+use Rattle.commit.specs.Commit.{Takes, Rules, Limit, Crash, takenAt, kept, noneOf, runs, promised}
 use Rattle.commit.proofs.Stores.{and-left, and-right, not-true, block-same, complete-finished}
 use Rattle.commit.proofs.Choice.{numbersFrom, take-run, take-visits}
 

@@ -1,15 +1,13 @@
 -- The rules can be kept: a commit of transaction 8 on the 16-block container, its map and its superblock in the two free
 -- blocks of the descriptor area. The finished image's answer is another than the old one's.
 use mathlib.Core.Path.{_≡_, refl, sym, ap, _∙_}
-use mathlib.Core.Bool.{Bool, true, false, true≢false}
-use mathlib.Core.List.{List, [], _∷_, _++_}
-use mathlib.Core.Option.{some}
+use mathlib.Core.Bool.{false, true≢false}
+use mathlib.Core.List.{List, [], _∷_}
 use mathlib.Core.Logic.{_≢_}
 use Prim.Native.Nat.{ℕ, zero, suc, _+_, _*_, _<_}
 use native.Mathlib.Omega.{arith}
 use native.Mathlib.Nat.{le-of-suc-le-suc, not-suc-le-zero}
-use lib.ListN.{length, replicate}
-use Rattle.fields.specs.Header.{xidOf}
+use lib.ListN.{replicate}
 use Rattle.fields.proofs.Rows.{Row, blockFrom}
 use Rattle.blocks.specs.Reads.{visits}
 use Rattle.blocks.specs.Blocks.{blockOf}
@@ -17,10 +15,9 @@ use Rattle.checkpoint.specs.Superblock.{sound}
 use Rattle.checkpoint.specs.declared.Geometry.{Geometry}
 use Rattle.checkpoint.specs.declared.Mapping.{Mapping}
 use Rattle.space_check.specs.Check.{check}
-use Rattle.report.specs.Report.{endingNumber}
 use Rattle.space_check.proofs.Computing.{computed}
 use Rattle.space_check.proofs.Container.{blockBytes, managerId, managerBlock, superblock, checkpointMap, roomy}
-use Rattle.commit.specs.Stores.{Store, CutOf, touched, touchedFrom, blockTouched, overwrite, finished}
+use Rattle.commit.specs.Stores.{Store, touched, touchedFrom, blockTouched, overwrite, finished}
 use Rattle.commit.specs.Commit.{Takes, Rules, kept, noneOf}
 
 abbrev pub handed : List ℕ

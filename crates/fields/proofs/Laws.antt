@@ -1,16 +1,16 @@
 -- The laws of a field's number, over its width.
 use mathlib.Core.Path.{_≡_, refl, sym, ap, _∙_}
-use mathlib.Core.Bool.{false}
+use mathlib.Core.Bool.{Bool, false, _&&_}
 use mathlib.Core.List.{List, [], _∷_}
 use Prim.Native.Nat.{ℕ, zero, suc, _+_, _-_, _*_, _/_, _%_, _^_, _≤_, _<_}
-use native.Mathlib.Nat.{lt-of-lt-of-le, le-of-suc-le-suc, not-suc-le-zero, zero-div}
+use native.Mathlib.Nat.{lt-of-lt-of-le, zero-div}
 use native.Mathlib.Omega.{arith}
 use lib.Bits.{bitAnd, and-mask}
-use lib.Dec.{eqb}
-use lib.ListN.{length, getD, take, drop, length-drop}
+use lib.Dec.{eqb, ltb}
+use lib.ListN.{length, getD, take, drop, length-drop, drop-of-length-le, List·getD-eq-default}
 use lib.Seq.{drop-nil, take-nil, take-all}
 use lib.Pow.{pow-add, pow-mono}
-use borrow.Author.Tests.{le-leb, lt-leb}
+use borrow.Author.Tests.{le-leb, lt-leb, lt-ltb, le-ltb}
 use Rattle.fields.specs.Fields.{Number, FieldOf, le, num, fieldAt, bit, bitAt}
 use Rattle.fields.specs.declared.Field.{Field}
 use Rattle.fields.specs.declared.Field.the-variants.{Value, Absent}
@@ -59,33 +59,30 @@ pub field-absent : (w : ℕ) (b : List ℕ) (off : ℕ) → length b < off + w �
 unfolding fieldAt
 field-absent w b off h = simp (lt-leb _ _ h)
 
--- no byte past the end
-pub past-end : (b : List ℕ) (i : ℕ) → length b ≤ i → getD b i 0 ≡ 0
-past-end [] i h = refl
-past-end (x ∷ b) zero h = absurd (not-suc-le-zero h)
-past-end (x ∷ b) (suc i) h = past-end b i (le-of-suc-le-suc h)
-
 -- bit k read by a shift
 pub bit-read : (k x : ℕ) → eqb (bitAnd (x / 2 ^ k) 1) 1 ≡ bit k x
 bit-read k x = rw (and-mask (x / 2 ^ k) 1)
 
 pub bit-past : (b : List ℕ) (i : ℕ) → length b ≤ i / 8 → bitAt b i ≡ false
 unfolding bitAt
-bit-past b i h = rw (past-end b (i / 8) h) (zero-bit (2 ^ (i % 8)))
+bit-past b i h = rw (List·getD-eq-default b 0 h) (zero-bit (2 ^ (i % 8)))
   where
     zero-bit : (d : ℕ) → eqb (0 / d % 2) 1 ≡ false
     zero-bit d = rw zero-div refl
 
--- parts that reach the end
+-- what is asked below a limit alone
+module _ (i limit : ℕ) (asked : Bool) where
+  pub below-limit : i < limit → asked ≡ (ltb i limit && asked)
+  below-limit h = rw (lt-ltb i limit h) refl
 
-drop-past : (b : List ℕ) (k : ℕ) → length b ≤ k → drop k b ≡ []
-drop-past [] k h = drop-nil k
-drop-past (x ∷ b) zero h = absurd (not-suc-le-zero h)
-drop-past (x ∷ b) (suc k) h = drop-past b k (le-of-suc-le-suc h)
+  pub past-limit : limit ≤ i → false ≡ (ltb i limit && asked)
+  past-limit h = rw (le-ltb i limit h) refl
+
+-- parts that reach the end
 
 -- whatever stands before the end, from either start past it
 pub part-past : (b : List ℕ) (m n k len : ℕ) → length b ≤ n → length b ≤ k → take m (drop n b) ≡ take len (drop k b)
-part-past b m n k len p q = rw (drop-past b n p, drop-past b k q, take-nil m, take-nil len) refl
+part-past b m n k len p q = rw (drop-of-length-le b p, drop-of-length-le b q, take-nil m, take-nil len) refl
 
 -- two lengths that both reach the end
 pub part-rest : (b : List ℕ) (start m len : ℕ) → length b - start ≤ m → length b - start ≤ len → take m (drop start b) ≡ take len (drop start b)

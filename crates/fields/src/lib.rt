@@ -1,7 +1,7 @@
 // Little-endian fields of a part of an image (bytes.rs), the header of an object (obj.rs), and bits.
 ghost use mathlib.Core.Path.{_≡_};
 ghost use Prim.Native.Nat.{_+_, _<_, _≤_};
-ghost use lib.ListN.{length, getD, take, drop};
+ghost use lib.ListN.{getD, take, drop};
 ghost use Rattle.fields.specs.Fields.{Number, FieldOf, bitAt};
 ghost use Rattle.fields.specs.Header.{storedChecksum, xidOf, kindOf};
 

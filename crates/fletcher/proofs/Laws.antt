@@ -3,10 +3,10 @@ use mathlib.Core.Path.{_≡_, refl, sym, ap, ap₂, subst, _∙_}
 use mathlib.Core.Bool.{false}
 use mathlib.Core.List.{List, [], _∷_, _++_, append-assoc}
 use Prim.Native.Nat.{ℕ, suc, _+_, _-_, _*_, _/_, _%_, _^_, _≤_, _<_}
-use native.Mathlib.Nat.{add-mod, mod-mod, mul-add, add-mul, mul-le-mul}
+use native.Mathlib.Nat.{add-comm, add-mod, mod-mod, mul-add, add-mul, mul-le-mul}
 use native.Mathlib.Numerals.{towards-suc}
 use native.Mathlib.Omega.{arith}
-use lib.ListN.{length, getD, take, drop, length-append, length-drop, length-take, take-append-drop}
+use lib.ListN.{length, take, drop, length-append, length-drop, length-take, take-append-drop}
 use lib.Dec.{eqb}
 use lib.Seq.{drop-cons, take-all, take-append-add, drop-drop}
 use borrow.Author.Tests.{le-leb, lt-leb, eq-eqb, ne-eqb}
@@ -196,6 +196,31 @@ added-seal b x r added = added .onward [] ∙ fletcher-words b _ _
 
 pub pieces-seal : (p q : List ℕ) (x y z : Sums) → length p % 4 ≡ 0 → Added p x y → Added q y z → seal (z .s) (z .t) ≡ fletcher (p ++ q) (x .s) (x .t)
 pieces-seal p q x y z h first second = added-seal (p ++ q) x z (added-then p q x y z h first second)
+
+-- the seal tells both sums modulo M, so that what `add` ensures is one answer
+
+halves-once : (h l h′ l′ : ℕ) → l < 2 ^ 32 → l′ < 2 ^ 32 → h * 2 ^ 32 + l ≡ h′ * 2 ^ 32 + l′ → (h ≡ h′) × (l ≡ l′)
+halves-once h l h′ l′ a b e = (omega arith, omega arith)
+
+half-once : (n x y : ℕ) → x < M → y < M → M - (x + n) % M ≡ M - (y + n) % M → x ≡ y
+half-once n x y a b e = omega arith
+
+seal-once : (x y : Sums) → Reduced x → Reduced y → seal (x .s) (x .t) ≡ seal (y .s) (y .t) → x ≡ y
+unfolding seal
+seal-once x y a b e = ap₂ (λ (s t : ℕ). record { s = s; t = t }) same-s same-t
+  where
+    halves : (M - (x .s + low (x .s) (x .t)) % M ≡ M - (y .s + low (y .s) (y .t)) % M) × (low (x .s) (x .t) ≡ low (y .s) (y .t))
+    halves = halves-once _ (low (x .s) (x .t)) _ (low (y .s) (y .t)) (omega arith) (omega arith) e
+
+    same-s : x .s ≡ y .s
+    same-s = half-once (low (x .s) (x .t)) (x .s) (y .s) (a .s-fits) (b .s-fits) (halves .0 ∙ ap (λ (l : ℕ). M - (y .s + l) % M) (sym (halves .1)))
+
+    same-t : x .t ≡ y .t
+    same-t = half-once (x .s) (x .t) (y .t) (a .t-fits) (b .t-fits) (rw (add-comm (x .t) (x .s), add-comm (y .t) (x .s)) (halves .1 ∙ ap (λ (s : ℕ). M - (s + y .t) % M) (sym same-s)))
+
+pub added-once : (b : List ℕ) (x r r′ : Sums) → Added b x r → Added b x r′ → r ≡ r′
+unfolding fletcher
+added-once b x r r′ p q = seal-once r r′ (p .fits) (q .fits) (p .onward [] ∙ sym (q .onward []))
 
 -- an object too short, one that is no whole words, and any other
 

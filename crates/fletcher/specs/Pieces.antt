@@ -3,7 +3,7 @@ use mathlib.Core.List.{List, _++_}
 use mathlib.Core.Path.{_≡_}
 use Prim.Native.Nat.{ℕ, _+_, _*_, _/_, _%_, _≤_, _<_, _^_}
 use lib.ListN.{length, take, getD}
-use Rattle.fletcher.specs.Fletcher.{word, fletcher}
+use Rattle.fletcher.specs.Fletcher.{M, word, fletcher}
 use Rattle.fletcher.specs.declared.Sums.{Sums}
 
 abbrev pub wordAt : List ℕ → ℕ → ℕ
@@ -16,10 +16,10 @@ plusWord x w = record { s = x .s + w; t = x .t + (x .s + w) }
 unfoldable pub words : List ℕ → List ℕ
 words piece = take (length piece / 4 * 4) piece
 
--- reduced modulo M, or small enough to be so
+-- reduced modulo M
 pub record Reduced (sums : Sums) : Type 0 where
-  pub s-fits : sums .s < 2 ^ 32
-  pub t-fits : sums .t < 2 ^ 32
+  pub s-fits : sums .s < M
+  pub t-fits : sums .t < M
 
 -- r stands for the sums after a piece: whatever follows goes on from r as from the sums before the piece
 pub record Added (piece : List ℕ) (sums r : Sums) : Type 0 where

@@ -1,7 +1,7 @@
 -- Physical walks over trees that are too deep, too wide, or cyclic ("walking a cyclic tree until memory ends" is a misreading).
 use mathlib.Core.Bool.{Bool}
 use mathlib.Core.List.{List, [], _∷_}
-use Prim.Native.Nat.{ℕ, zero, suc, _+_, _*_, _-_}
+use Prim.Native.Nat.{ℕ, zero, suc, _+_, _*_}
 use lib.Dec.{T, eqb, ltb}
 use lib.ListN.{drop}
 use Rattle.fields.specs.Choice.{pick}

@@ -5,8 +5,9 @@ use Prim.Native.Nat.{ℕ, _+_, _-_, _^_, _≤_, _<_}
 use native.Mathlib.Omega.{arith}
 use lib.ListN.{set}
 use borrow.Author.Tests.{lt-ltb, le-ltb}
-use Rattle.blocks.specs.Reads.{done, run, _>>=_, need}
+use Rattle.blocks.specs.Reads.{done, run, _>>=_}
 use Rattle.blocks.specs.Blocks.{sum}
+use Rattle.blocks.proofs.Laws.{run-bind, sum-fits, sum-passes}
 use Rattle.blocks.specs.declared.Refusal.the-variants.{Overflow}
 use Rattle.report.specs.Report.{logged, note}
 use Rattle.report.specs.Steps.{Logged}
@@ -25,9 +26,8 @@ module _ {A : Type 0} (total : ℕ) (x : A) (first : List A) where
 -- one more counted, and refused where the count can't grow
 module _ {L : Type 0} (total : ℕ) (log : L) (counted : ℕ → L) where
   pub count-more : total < 2 ^ 64 - 1 → log ≡ counted (total + 1) → (before : L) → Logged Done before log (sum total 1 >>= λ n. done (counted n))
-  unfolding run _>>=_ need sum
-  count-more h e before = record { outcome = λ f. simp (lt-ltb (total + 1) (2 ^ 64) (omega arith), e); kept = λ r d. cc }
+  unfolding run
+  count-more h e before = record { outcome = λ f. rw (run-bind f (sum total 1), sum-fits f total 1 (omega arith), e) refl; kept = λ r d. cc }
 
   pub count-refused : total ≡ 2 ^ 64 - 1 → Logged (Refused Overflow) log log (sum total 1 >>= λ n. done (counted n))
-  unfolding run _>>=_ need sum
-  count-refused h = record { outcome = λ f. simp (le-ltb (total + 1) (2 ^ 64) (omega arith)); kept = λ r d. refl }
+  count-refused h = record { outcome = λ f. rw (run-bind f (sum total 1), sum-passes f total 1 (omega arith)) refl; kept = λ r d. refl }

@@ -12,7 +12,6 @@ use Rattle.report.specs.declared.Problem.{Problem}
 use Rattle.report.specs.declared.ProblemLog.{ProblemLog}
 use Rattle.report.specs.declared.Overlap.{Overlap}
 use Rattle.report.specs.declared.OverlapLog.{OverlapLog}
-use Rattle.report.specs.declared.Lost.{Lost}
 use Rattle.report.specs.declared.Report.{Report}
 use Rattle.report.specs.declared.Answer.{Answer}
 use Rattle.report.specs.declared.Ending.{Ending}

@@ -1,5 +1,4 @@
--- Laws, and the definition computed: document 01's samples and its listing's container.
-pub mod Laws
+-- The definition computed: document 01's samples and its listing's container.
 pub mod Computing
 pub mod Container
 pub mod Listing

@@ -1,6 +1,6 @@
 -- The starred samples of document 01, as one table over the definitions.
 use mathlib.Core.Path.{_≡_, refl}
-use mathlib.Core.Bool.{Bool, true, false, not, _&&_}
+use mathlib.Core.Bool.{Bool, false, not}
 use mathlib.Core.List.{List, [], _∷_, _++_}
 use mathlib.Core.Option.{Option, some, none}
 use Prim.Native.Nat.{ℕ}
@@ -8,7 +8,7 @@ use lib.Dec.{T, eqb}
 use lib.ListN.{length, getD, replicate}
 use Rattle.fields.proofs.Rows.{Row, row, zeros, bytesOf, blockFrom, every}
 use Rattle.fletcher.specs.Fletcher.{verifies}
-use Rattle.blocks.specs.Reads.{Reads, Outcome, given, refused, run, done, _>>=_}
+use Rattle.blocks.specs.Reads.{Outcome, given, refused, run, done, _>>=_}
 use Rattle.blocks.specs.Refusals.{numberOf}
 use Rattle.blocks.specs.declared.Container.{Container}
 use Rattle.nodes.specs.Node.{Entry, parse}

@@ -16,7 +16,7 @@ use Rattle.manager.specs.declared.Chunk.{Chunk}
 use Rattle.block_map.specs.BlockMap.{Marked, update, usedAt, marked, used}
 use Rattle.report.specs.Report.{addProblem}
 use Rattle.space_check.specs.Pool.{Pool, poolMarked}
-use Rattle.space_check.specs.Queue.{Run, runOf}
+use Rattle.space_check.specs.Queue.{runOf}
 use Rattle.space_check.specs.declared.Audit.{Audit}
 
 -- "Problems, in the order met"

@@ -13,7 +13,7 @@ use Rattle.blocks.specs.declared.Container.{Container}
 use Rattle.nodes.specs.Node.{Entry}
 use Rattle.block_map.specs.BlockMap.{Marked, update, ownerOf, ownedBy}
 use Rattle.report.specs.Report.{addOverlap}
-use Rattle.space_check.specs.Queue.{Run, runOf}
+use Rattle.space_check.specs.Queue.{runOf}
 use Rattle.report.specs.declared.OverlapLog.{OverlapLog}
 
 -- "Claims, in order, with kind numbers"; 0 is no owner

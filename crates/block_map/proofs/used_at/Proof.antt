@@ -1,7 +1,7 @@
 use mathlib.Core.Path.{ap, _∙_}
 use borrow.Author.Needs.{needs}
-use Rattle.block_map.specs.BlockMap.{isUsed}
-use Rattle.block_map.proofs.Laws.{used-inside, used-outside}
+use Rattle.fields.proofs.Laws.{below-limit, past-limit}
+use Rattle.block_map.specs.BlockMap.{isUsed, usedAt}
 use Rattle.block_map.proofs.used_at.Statement.{statement}
 use Rattle.block_map.proofs.used_at.Tie as tie
 
@@ -12,10 +12,16 @@ is-used-requires : tie.Need-is-used-requires
 is-used-requires c κs = search needs
 
 returns : tie.Need-returns
-returns c = c .is-used .ensures ∙ (ap isUsed (c .before .cell .ensures) ∙ used-inside _ _ _ (search needs))
+unfolding usedAt
+returns c =
+    let asked = c .before .before .before .before .before .args in
+    c .is-used .ensures ∙ (ap isUsed (c .before .cell .ensures) ∙ below-limit (asked .a) (asked .c .count) _ (search needs))
 
 returns-2 : tie.Need-returns-2
-returns-2 c = used-outside _ _ _ (search needs)
+unfolding usedAt
+returns-2 c =
+    let asked = c .before .before .before .args in
+    past-limit (asked .a) (asked .c .count) _ (search needs)
 
 pub used-at-spec : {M : Type 1} → statement M
 used-at-spec = tie.close (tie.spec cell-requires is-used-requires returns returns-2)

@@ -1,5 +1,4 @@
-use Prim.Native.Nat.{_+_}
-use Rattle.fields.proofs.Laws.{past-end}
+use lib.ListN.{List·getD-eq-default}
 use native.Mathlib.Omega.{arith}
 use mathlib.Core.Path.{sym}
 use borrow.Author.Needs.{needs}
@@ -24,14 +23,12 @@ returns c = search needs
 returns-2 : tie.Need-returns-2
 returns-2 c =
     let s = c .before .before .before .args .s .now in
-    let i = c .before .before .before .args .at + c .before .before .before .args .k in
-    (sym (past-end s i (omega arith)), omega arith)
+    (sym (List·getD-eq-default s 0 (omega arith)), omega arith)
 
 returns-3 : tie.Need-returns-3
 returns-3 c =
     let s = c .before .before .args .s .now in
-    let i = c .before .before .args .at + c .before .before .args .k in
-    (sym (past-end s i (omega arith)), omega arith)
+    (sym (List·getD-eq-default s 0 (omega arith)), omega arith)
 
 pub byte-at-spec : {M : Type 1} → statement M
 byte-at-spec =

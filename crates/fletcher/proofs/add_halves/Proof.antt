@@ -1,7 +1,7 @@
 use native.Mathlib.Omega.{arith}
 use borrow.Author.Needs.{needs}
-use mathlib.Core.Path.{_≡_, refl}
-use Prim.Native.Nat.{_+_, _-_, _*_, _/_, _%_, _≤_, _<_, _^_}
+use mathlib.Core.Path.{_≡_}
+use Prim.Native.Nat.{_-_, _*_, _/_, _%_, _≤_, _<_, _^_}
 use lib.ListN.{length}
 use Rattle.fletcher.proofs.Laws.{Half, none, half-start, half-two, halves-done, added-run, times-small}
 use Rattle.fletcher.proofs.add_halves.Statement.{statement}

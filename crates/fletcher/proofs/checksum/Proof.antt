@@ -1,6 +1,6 @@
 use native.Mathlib.Omega.{arith}
 use mathlib.Core.List.{List}
-use mathlib.Core.Path.{_≡_, ap, sym, _∙_}
+use mathlib.Core.Path.{ap, sym, _∙_}
 use lib.ListN.{length, drop-of-length-le}
 use Prim.Native.Nat.{ℕ, _≤_}
 use Rattle.fletcher.specs.Fletcher.{checksum, fletcher}

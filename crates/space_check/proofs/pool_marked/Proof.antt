@@ -1,4 +1,5 @@
-use Rattle.space_check.proofs.Laws.{pool-inside, pool-outside}
+use Rattle.fields.proofs.Laws.{below-limit, past-limit}
+use Rattle.space_check.specs.Pool.{poolMarked}
 use mathlib.Core.Path.{_∙_}
 use borrow.Author.Needs.{needs}
 use Rattle.space_check.proofs.pool_marked.Statement.{statement}
@@ -11,14 +12,16 @@ bit-at-requires : tie.Need-bit-at-requires
 bit-at-requires c κs = search needs
 
 returns : tie.Need-returns
+unfolding poolMarked
 returns c =
     let pool = c .before .before .before .before .args in
-    c .bit-at .ensures ∙ pool-inside (record { base = pool .base; blocks = pool .count; bits = pool .bits .now }) (pool .a) _ (c .before .before .pool-index .ensures) (search needs)
+    rw (← c .before .before .pool-index .ensures) (c .bit-at .ensures ∙ below-limit (c .before .before .pool-index .result) (pool .count) _ (search needs))
 
 returns-2 : tie.Need-returns-2
+unfolding poolMarked
 returns-2 c =
     let pool = c .before .before .before .args in
-    pool-outside (record { base = pool .base; blocks = pool .count; bits = pool .bits .now }) (pool .a) _ (c .before .pool-index .ensures) (search needs)
+    rw (← c .before .pool-index .ensures) (past-limit (c .before .pool-index .result) (pool .count) _ (search needs))
 
 pub pool-marked-spec : {M : Type 1} → statement M
 pool-marked-spec = tie.close (tie.spec pool-index-requires bit-at-requires returns returns-2)
