@@ -3,12 +3,13 @@ use mathlib.Core.Path.{_≡_, refl, sym, ap, _∙_, subst}
 use mathlib.Core.Bool.{Bool, true, false}
 use mathlib.Core.List.{List, [], _∷_, _++_}
 use Prim.Native.Nat.{ℕ, _+_, _*_, _/_, _^_, _≤_, _<_}
-use native.Mathlib.Nat.{div-lt-iff-lt-mul, le-div-iff-mul-le}
+use native.Mathlib.Nat.{le-trans, mul-le-mul-right, add-mul, one-mul, div-lt-iff-lt-mul, le-div-iff-mul-le}
+use lib.ListN.{length, length-take, length-drop}
 use native.Mathlib.Omega.{arith}
 use borrow.Author.Tests.{lt-ltb, le-ltb}
 use Rattle.blocks.specs.Reads.{Reads, done, refuse, read, Outcome, given, refused, run, visits, _>>=_, need}
 use Rattle.fletcher.specs.Fletcher.{verifies}
-use Rattle.blocks.specs.Blocks.{readRaw, readObject, sum}
+use Rattle.blocks.specs.Blocks.{blockOf, readRaw, readObject, sum}
 use Rattle.blocks.specs.declared.Address.{Address}
 use Rattle.blocks.specs.declared.Container.{Container}
 use Rattle.blocks.specs.declared.Refusal.{Refusal}
@@ -35,6 +36,24 @@ visits-bind f (done a) g = refl
 visits-bind f (refuse r) g = refl
 visits-bind f (read n k) g = ap (λ (l : List ℕ). n ∷ l) (visits-bind f (k (f n)) g)
 
+-- a sequence, once its first pass has ended
+module _ {A B : Type 0} (f : ℕ → List ℕ) (p : Reads A) (g : A → Reads B) where
+  pub then-given : (a : A) → run f p ≡ given a → run f (p >>= g) ≡ run f (g a)
+  then-given a e = run-bind f p g ∙ rw e refl
+
+  pub then-refused : (r : Refusal) → run f p ≡ refused r → run f (p >>= g) ≡ refused r
+  then-refused r e = run-bind f p g ∙ rw e refl
+
+-- what follows a test, by the way that it goes
+module _ {A : Type 0} (f : ℕ → List ℕ) (b : Bool) (r : Refusal) (k : Unit {0} → Reads A) where
+  pub need-true : b ≡ true → run f (need b r >>= k) ≡ run f (k tt)
+  unfolding run need _>>=_
+  need-true e = rw e refl
+
+  pub need-false : b ≡ false → run f (need b r >>= k) ≡ refused r
+  unfolding run need _>>=_
+  need-false e = rw e refl
+
 -- two images agree on each block of a list
 unfoldable pub Agree : (ℕ → List ℕ) → (ℕ → List ℕ) → List ℕ → Type 0
 Agree f g [] = Unit {0}
@@ -56,6 +75,21 @@ need-held {A} f false r k a e = absurd (subst isRefused e tt)
     isRefused : Outcome A → Type 0
     isRefused (given a) = ⊥
     isRefused (refused r) = Unit {0}
+
+-- where a sequence gave an answer, its first pass did
+pub record Both {A B : Type 0} (f : ℕ → List ℕ) (p : Reads A) (g : A → Reads B) (b : B) : Type 0 where
+  pub first : A
+  pub came : run f p ≡ given first
+  pub rest : run f (g first) ≡ given b
+
+pub both : {A B : Type 0} (f : ℕ → List ℕ) (p : Reads A) (g : A → Reads B) (b : B) → run f (p >>= g) ≡ given b → Both f p g b
+both {A} f p g b e = go (run f p) refl
+  where
+    go : (o : Outcome A) → run f p ≡ o → Both f p g b
+    go (given a) q = record { first = a; came = q; rest = sym (then-given f p g a q) ∙ e }
+    go (refused r) q =
+        let never : refused r ≡ given b = sym (then-refused f p g r q) ∙ e in
+        let z : _≡_ {A = ℕ} 0 1 = cc in absurd (omega arith)
 
 -- the steps of Blocks.antt, by the way that their test goes
 
@@ -82,7 +116,29 @@ begins-past len size n h k = omega (arith, div-lt-iff-lt-mul h .0 k)
 pub begins-inside : (len size n : ℕ) → 0 < size → n ≤ len / size → n * size ≤ len
 begins-inside len size n h k = le-div-iff-mul-le h .0 k
 
+-- a block below the count has the block size's bytes, in an image that holds them all
+pub block-length : (image : List ℕ) (size count n : ℕ) → count * size ≤ length image → n < count → length (blockOf image size n) ≡ size
+unfolding blockOf
+block-length image size count n h k = simp (length-take, length-drop) (omega (arith, inside))
+  where
+    inside : n * size + size ≤ length image
+    inside = le-trans (rw e (mul-le-mul-right size p)) h
+      where
+        p : n + 1 ≤ count
+        p = omega arith
+
+        e : n * size + size ≡ (n + 1) * size
+        e = simp (add-mul, one-mul)
+
 module _ (f : ℕ → List ℕ) (c : Container) (a : Address) where
+  -- what was read, where something was
+  pub object-given : (b : List ℕ) → run f (readObject c a) ≡ given b → b ≡ f (a .0)
+  unfolding run readObject _>>=_
+  object-given b e =
+      let inside = need-held f _ _ _ b e in
+      let sums = need-held f _ _ _ b (inside .1) in
+      let same : given (f (a .0)) ≡ given b = sums .1 in cc
+
   pub object-zero : a .0 ≡ 0 → run f (readObject c a) ≡ refused PastContainer
   unfolding run readObject need _>>=_
   object-zero e = rw e refl

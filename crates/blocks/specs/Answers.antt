@@ -1,4 +1,4 @@
--- What the code answers for the outcome of a step.
+-- The outcome that each answer of the code stands for.
 use mathlib.Core.List.{List}
 use Prim.Native.Nat.{ℕ}
 use Rattle.blocks.specs.Reads.{Outcome, given, refused}
@@ -7,11 +7,11 @@ use Rattle.blocks.specs.declared.Seen.the-variants as seen
 use Rattle.blocks.specs.declared.Added.{Added}
 use Rattle.blocks.specs.declared.Added.the-variants as added
 
--- a block's bytes stand in the image, so that only whether they may be read is answered
-abbrev pub seenOf : Outcome (List ℕ) → Seen
-seenOf (given b) = seen.There
-seenOf (refused r) = seen.Refused r
+-- a value stands in the image or beside the answer, so that only whether it may be had is answered
+abbrev pub seenAs : {A : Type 0} → A → Seen → Outcome A
+seenAs a seen.There = given a
+seenAs a (seen.Refused r) = refused r
 
-abbrev pub addedOf : Outcome ℕ → Added
-addedOf (given n) = added.To n
-addedOf (refused r) = added.Refused r
+abbrev pub addedAs : Added → Outcome ℕ
+addedAs (added.To n) = given n
+addedAs (added.Refused r) = refused r

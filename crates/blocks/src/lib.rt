@@ -6,7 +6,7 @@ ghost use Prim.Native.Nat.{ℕ};
 ghost use Rattle.blocks.specs.Refusals.{numberOf};
 ghost use Rattle.blocks.specs.Reads.{run};
 ghost use Rattle.blocks.specs.Blocks.{blockOf, readRaw, readObject, sum};
-ghost use Rattle.blocks.specs.Answers.{seenOf, addedOf};
+ghost use Rattle.blocks.specs.Answers.{seenAs, addedAs};
 
 // Why a pass gives no report, in checking order: specs/Refusals.antt has the number of each.
 pub enum Refusal {
@@ -99,7 +99,7 @@ pub enum Seen {
 
 // A block as it is.
 pub fn raw_block(container: Container, a: Address) -> Seen
-    ensures { λ r. ⌜ ((f : ℕ → List ℕ) → r ≡ seenOf (run f (readRaw container a))) ⌝ }
+    ensures { λ r. ⌜ ((f : ℕ → List ℕ) → seenAs (f (a .0)) r ≡ run f (readRaw container a)) ⌝ }
 {
     if a.0 < container.count {
         Seen::There
@@ -110,7 +110,7 @@ pub fn raw_block(container: Container, a: Address) -> Seen
 
 // An object that must verify.
 pub fn object_block(image: &[u8], container: Container, a: Address) -> Seen
-    ensures { λ r. ⌜ r ≡ seenOf (run (blockOf (now (image .entry)) (container .size)) (readObject container a)) ⌝ }
+    ensures { λ r. ⌜ seenAs (blockOf (now (image .entry)) (container .size) (a .0)) r ≡ run (blockOf (now (image .entry)) (container .size)) (readObject container a) ⌝ }
 {
     let n = a.0;
     if n == 0 {
@@ -134,7 +134,7 @@ pub enum Added {
 
 // A sum that must stay below 2^64.
 pub fn add(a: u64, b: u64) -> Added
-    ensures { λ r. ⌜ ((f : ℕ → List ℕ) → r ≡ addedOf (run f (sum a b))) ⌝ }
+    ensures { λ r. ⌜ ((f : ℕ → List ℕ) → addedAs r ≡ run f (sum a b)) ⌝ }
 {
     if u64::MAX - a < b {
         Added::Refused(Refusal::Overflow)

@@ -1,5 +1,4 @@
 use Rattle.blocks.proofs.Laws.{object-zero, object-past, object-there, object-bad}
-use Rattle.blocks.specs.Answers.{seenOf}
 use Rattle.fletcher.specs.Fletcher.{verifies}
 use native.Mathlib.Omega.{arith}
 use mathlib.Core.Path.{sym, ap, _∙_}
@@ -8,10 +7,10 @@ use Rattle.blocks.proofs.object_block.Statement.{statement}
 use Rattle.blocks.proofs.object_block.Tie as tie
 
 returns : tie.Need-returns
-returns c = sym (ap seenOf (object-zero _ _ _ (c .if1 .taken)))
+returns c = sym (object-zero _ _ _ (c .if1 .taken))
 
 returns-2 : tie.Need-returns-2
-returns-2 c = sym (ap seenOf (object-past _ _ _ (omega arith) (c .if2 .taken)))
+returns-2 c = sym (object-past _ _ _ (omega arith) (c .if2 .taken))
 
 block-requires : tie.Need-block-requires
 block-requires c κs = search needs
@@ -20,10 +19,10 @@ verify-requires : tie.Need-verify-requires
 verify-requires c κs = search needs
 
 returns-3 : tie.Need-returns-3
-returns-3 c = sym (ap seenOf (object-there _ _ _ (omega arith) (omega arith) (ap verifies (sym (c .before .before .block .ensures)) ∙ (sym (c .before .verify .ensures) ∙ c .if3 .taken))))
+returns-3 c = sym (object-there _ _ _ (omega arith) (omega arith) (ap verifies (sym (c .before .before .block .ensures)) ∙ (sym (c .before .verify .ensures) ∙ c .if3 .taken)))
 
 returns-4 : tie.Need-returns-4
-returns-4 c = sym (ap seenOf (object-bad _ _ _ (omega arith) (omega arith) (ap verifies (sym (c .before .before .block .ensures)) ∙ (sym (c .before .verify .ensures) ∙ c .if3 .left))))
+returns-4 c = sym (object-bad _ _ _ (omega arith) (omega arith) (ap verifies (sym (c .before .before .block .ensures)) ∙ (sym (c .before .verify .ensures) ∙ c .if3 .left)))
 
 pub object-block-spec : {M : Type 1} → statement M
 object-block-spec =
