@@ -1,6 +1,6 @@
 -- Laws of passes: a sequence, by its parts; and that an answer depends on the blocks read alone.
 use mathlib.Core.Path.{_≡_, refl, sym, ap, _∙_, subst}
-use mathlib.Core.Bool.{Bool, true, false}
+use mathlib.Core.Bool.{Bool, true, false, _&&_, true≢false}
 use mathlib.Core.List.{List, [], _∷_, _++_}
 use Prim.Native.Nat.{ℕ, _+_, _*_, _/_, _^_, _≤_, _<_}
 use native.Mathlib.Nat.{le-trans, mul-le-mul-right, add-mul, one-mul, div-lt-iff-lt-mul, le-div-iff-mul-le}
@@ -65,6 +65,15 @@ unfolding run visits Agree
 local f g (done a) h = refl
 local f g (refuse r) h = refl
 local f g (read n k) h = ap (λ b. run g (k b)) (sym (h .0)) ∙ local f g (k (f n)) (h .1)
+
+-- where both tests held, each did
+pub and-left : (a b : Bool) → (a && b) ≡ true → a ≡ true
+and-left true b e = refl
+and-left false b e = e
+
+pub and-right : (a b : Bool) → (a && b) ≡ true → b ≡ true
+and-right true b e = e
+and-right false b e = absurd (true≢false (sym e))
 
 -- where an answer came after a test, the test held
 pub need-held : {A : Type 0} (f : ℕ → List ℕ) (b : Bool) (r : Refusal) (k : Unit {0} → Reads A) (a : A) → run f (need b r >>= k) ≡ given a → (b ≡ true) × (run f (k tt) ≡ given a)

@@ -1,2 +1,5 @@
--- The definitions of this layer computed on samples.
+-- Laws of block 0, the chain and the search for a superblock; samples of the order of refusals.
+pub mod OpeningLaws
+pub mod ChainLaws
+pub mod SearchLaws
 pub mod Samples

@@ -5,10 +5,10 @@ use Prim.Native.Nat.{ℕ, _^_}
 use lib.Dec.{T, eqb}
 use Rattle.fields.specs.Fields.{le, num}
 use Rattle.fields.proofs.Rows.{row, blockFrom, every}
-use Rattle.blocks.specs.Reads.{Outcome, given, refused, run, noBlocks, _>>=_, need}
+use Rattle.blocks.specs.Reads.{Outcome, given, refused, run, noBlocks, need, _>>=_}
 use Rattle.blocks.specs.Refusals.{numberOf}
 use Rattle.checkpoint.specs.Superblock.{magic}
-use Rattle.checkpoint.specs.Geometry.{sizeAllowed, geometry}
+use Rattle.checkpoint.specs.Geometry.{sizeAllowed, allowed, geometry}
 use Rattle.checkpoint.specs.Checkpoint.{admit}
 
 abbrev number : {A : Type 0} → Outcome A → ℕ
@@ -53,5 +53,5 @@ table =
     ∷ []
 
 samples : T (every table)
-unfolding table le num run _>>=_ need sizeAllowed geometry admit blockFrom
+unfolding table le num run _>>=_ need sizeAllowed allowed geometry admit blockFrom
 samples = tt

@@ -5,15 +5,17 @@ use mathlib.Core.List.{List, [], _∷_, _++_, append-nil}
 use mathlib.Core.Logic.{_≢_}
 use Prim.Native.Nat.{ℕ, zero, suc, _+_, _<_}
 use native.Mathlib.Omega.{arith}
-use native.Mathlib.Nat.{add-zero, zero-add, le-of-suc-le-suc, not-suc-le-zero}
+use native.Mathlib.Nat.{add-zero, zero-add, not-suc-le-zero}
 use lib.Dec.{ltb}
 use lib.ListN.{getD}
 use borrow.Author.Tests.{lt-ltb, le-ltb}
 use Rattle.fields.specs.Choice.{pick}
 use Rattle.fields.specs.Header.{xidOf}
-use Rattle.blocks.specs.Reads.{Reads, done, _>>=_, run, visits, Outcome, given}
-use Rattle.blocks.proofs.Laws.{andThen, run-bind, visits-bind}
+use Rattle.blocks.specs.Reads.{Reads, done, _>>=_, run, visits, given}
+use Rattle.blocks.proofs.Laws.{run-bind, visits-bind}
 use Rattle.checkpoint.specs.Superblock.{sound}
+use Rattle.checkpoint.specs.InPlace.{blocksFrom}
+use Rattle.checkpoint.proofs.SearchLaws.{area-run, blocks-at}
 use Rattle.checkpoint.specs.Map.{chain}
 use Rattle.checkpoint.specs.Checkpoint.{Taken, areaFrom, isAfter, isAhead, bestFrom, loaded, try, tryFrom, takeSuperblock}
 use Rattle.checkpoint.specs.declared.Geometry.{Geometry}
@@ -23,31 +25,15 @@ use Rattle.checkpoint.specs.declared.Best.the-variants.{Superblock, Nothing}
 use Rattle.checkpoint.specs.declared.Mapping.{Mapping}
 use Rattle.commit.specs.Commit.{Takes, takenAt}
 
--- the blocks of an image from a on, and their numbers
-unfoldable pub blocksFrom : (ℕ → List ℕ) → ℕ → ℕ → List (List ℕ)
-blocksFrom f zero a = []
-blocksFrom f (suc left) a = f a ∷ blocksFrom f left (a + 1)
-
+-- the numbers of the blocks from a on
 unfoldable pub numbersFrom : ℕ → ℕ → List ℕ
 numbersFrom zero a = []
 numbersFrom (suc left) a = a ∷ numbersFrom left (a + 1)
-
-area-run : (f : ℕ → List ℕ) (left a : ℕ) → run f (areaFrom left a) ≡ given (blocksFrom f left a)
-unfolding run areaFrom blocksFrom _>>=_
-area-run f zero a = refl
-area-run f (suc left) a =
-    run-bind f (areaFrom left (a + 1)) (λ bs. done (f a ∷ bs)) ∙ ap (λ (o : Outcome (List (List ℕ))). andThen o (λ bs. given (f a ∷ bs))) (area-run f left (a + 1))
 
 area-visits : (f : ℕ → List ℕ) (left a : ℕ) → visits f (areaFrom left a) ≡ numbersFrom left a
 unfolding visits areaFrom numbersFrom _>>=_
 area-visits f zero a = refl
 area-visits f (suc left) a = ap (λ (l : List ℕ). a ∷ l) (visits-bind f (areaFrom left (a + 1)) (λ bs. done (f a ∷ bs)) ∙ rw (area-run f left (a + 1), append-nil) (area-visits f left (a + 1)))
-
-blocks-at : (f : ℕ → List ℕ) (left a j : ℕ) → j < left → getD (blocksFrom f left a) j [] ≡ f (a + j)
-unfolding blocksFrom
-blocks-at f zero a j h = absurd (not-suc-le-zero h)
-blocks-at f (suc left) a zero h = rw add-zero refl
-blocks-at f (suc left) a (suc j) h = let same : a + suc j ≡ a + 1 + j = omega arith in rw same (blocks-at f left (a + 1) j (le-of-suc-le-suc h))
 
 -- every sound block of the left from a on has an xid below x
 abbrev Below : (ℕ → List ℕ) → ℕ → ℕ → ℕ → Type 0

@@ -1,21 +1,19 @@
 -- The theorem of specs/Commit.antt: until the last store is complete the answer and the map are the old image's.
-use mathlib.Core.Path.{_≡_, refl, sym, ap, _∙_, subst}
-use mathlib.Core.Bool.{Bool, true, false, not, true≢false}
+use mathlib.Core.Path.{_≡_, refl, sym, ap, _∙_}
+use mathlib.Core.Bool.{Bool, true, false, not}
 use mathlib.Core.List.{List, [], _∷_, _++_, append-assoc}
 use mathlib.Core.Logic.{_≢_}
 use Prim.Native.Nat.{ℕ, _+_, _<_, _≤_}
-use native.Mathlib.Omega.{arith}
 use native.Mathlib.Nat.{zero-mul}
-use lib.Dec.{leb}
 use lib.ListN.{length, take}
 use lib.Seq.{take-take}
-use borrow.Author.Tests.{leb-true, leb-false, ne-eqb}
 use Rattle.fields.specs.Header.{xidOf}
 use Rattle.blocks.specs.Reads.{_>>=_, run, noBlocks, visits, given}
 use Rattle.blocks.specs.Blocks.{blockOf}
-use Rattle.blocks.proofs.Laws.{Agree, run-bind, visits-bind, local, need-held}
-use Rattle.checkpoint.specs.Superblock.{sound, blockSize}
-use Rattle.checkpoint.specs.Geometry.{geometry, sizeAllowed, leastSize}
+use Rattle.blocks.proofs.Laws.{Agree, and-left, and-right, run-bind, visits-bind, local}
+use Rattle.checkpoint.specs.Superblock.{sound}
+use Rattle.checkpoint.specs.Geometry.{geometry, leastSize}
+use Rattle.checkpoint.proofs.OpeningLaws.{geometry-given}
 use Rattle.checkpoint.specs.Map.{chain}
 use Rattle.checkpoint.specs.Checkpoint.{takeSuperblock}
 use Rattle.checkpoint.specs.declared.Geometry.{Geometry}
@@ -23,36 +21,8 @@ use Rattle.checkpoint.specs.declared.Mapping.{Mapping}
 use Rattle.space_check.specs.Check.{check, checkIn, settle, pass, rest}
 use Rattle.commit.specs.Stores.{Store, CutOf, blockTouched, complete}
 use Rattle.commit.specs.Commit.{Takes, Rules, Limit, Crash, takenAt, kept, noneOf, runs, promised}
-use Rattle.commit.proofs.Stores.{and-left, and-right, not-true, block-same, complete-finished}
+use Rattle.commit.proofs.Stores.{not-true, block-same, complete-finished}
 use Rattle.commit.proofs.Choice.{numbersFrom, take-run, take-visits}
-
--- a block that refusal 3 lets pass has at least the bytes that refusals 1 to 8 look at
-allowed-least : (n : ℕ) → sizeAllowed n ≡ true → leastSize ≤ n
-unfolding sizeAllowed
-allowed-least n e = go (leb leastSize n) refl
-  where
-    go : (t : Bool) → leb leastSize n ≡ t → leastSize ≤ n
-    go true h = leb-true leastSize n h
-    go false h =
-        let small : n < leastSize = leb-false leastSize n h in
-        absurd (true≢false (sym e ∙ simp (ne-eqb n 4096 (omega arith), ne-eqb n 8192 (omega arith), ne-eqb n 16384 (omega arith), ne-eqb n 32768 (omega arith), ne-eqb n 65536 (omega arith))))
-
-given-same : (a b : Geometry) → given a ≡ given b → a ≡ b
-given-same a b e = cc
-
-geometry-size : (len room : ℕ) (b : List ℕ) (g : Geometry) → run noBlocks (geometry len b room) ≡ given g → leastSize ≤ g .size
-unfolding geometry run
-geometry-size len room b g e =
-    let p₁ = need-held noBlocks _ _ _ g e in
-    let p₂ = need-held noBlocks _ _ _ g (p₁ .1) in
-    let p₃ = need-held noBlocks _ _ _ g (p₂ .1) in
-    let p₄ = need-held noBlocks _ _ _ g (p₃ .1) in
-    let p₅ = need-held noBlocks _ _ _ g (p₄ .1) in
-    let p₆ = need-held noBlocks _ _ _ g (p₅ .1) in
-    let p₇ = need-held noBlocks _ _ _ g (p₆ .1) in
-    let p₈ = need-held noBlocks _ _ _ g (p₇ .1) in
-    let same = given-same _ g (p₈ .1) in
-    subst (λ (h : Geometry). leastSize ≤ h .size) same (allowed-least (blockSize b) (p₃ .0))
 
 first-of : (l : List ℕ) (size : ℕ) → leastSize ≤ size → take leastSize (blockOf l size 0) ≡ take leastSize l
 unfolding blockOf
@@ -112,7 +82,7 @@ module _ (image map : List ℕ) (ss : List Store) (r : Rules image map ss) (cut 
   same-first : take leastSize cut ≡ take leastSize image
   unfolding kept Agree
   same-first =
-      let big = geometry-size (length image) (length map) (take leastSize image) g (r .opens) in
+      let big = geometry-given (length image) (length map) (take leastSize image) g (r .opens) .size .least in
       sym (first-of cut (g .size) big) ∙ (ap (take leastSize) (sym (same-kept .0)) ∙ first-of image (g .size) big)
 
   opens-again : run noBlocks (geometry (length cut) (take leastSize cut) (length map)) ≡ given g

@@ -11,6 +11,7 @@ use lib.Seq.{ext-getD, getD-take, getD-drop}
 use borrow.Author.Tests.{leb-true, leb-false, ltb-true, ltb-false, eqb-true}
 use Rattle.fields.specs.Choice.{pick}
 use Rattle.blocks.specs.Blocks.{blockOf}
+use Rattle.blocks.proofs.Laws.{and-left, and-right}
 use Rattle.commit.specs.Stores.{Store, CutOf, covers, touched, touchedFrom, blockTouched, finalByte, overwrite, finished, completeFrom, complete}
 
 pub or-left : (a b : Bool) → (a || b) ≡ false → a ≡ false
@@ -20,14 +21,6 @@ or-left false b e = refl
 pub or-right : (a b : Bool) → (a || b) ≡ false → b ≡ false
 or-right true b e = absurd (true≢false e)
 or-right false b e = e
-
-pub and-left : (a b : Bool) → (a && b) ≡ true → a ≡ true
-and-left true b e = refl
-and-left false b e = e
-
-pub and-right : (a b : Bool) → (a && b) ≡ true → b ≡ true
-and-right true b e = e
-and-right false b e = absurd (true≢false (sym e))
 
 pub not-true : (a : Bool) → not a ≡ true → a ≡ false
 not-true true e = sym e
