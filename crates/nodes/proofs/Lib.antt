@@ -1,2 +1,3 @@
--- The definitions of this layer computed on samples.
+-- Laws of nodes, and the definitions of this layer computed on samples.
+pub mod Laws
 pub mod Samples
