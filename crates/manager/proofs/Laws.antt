@@ -1,0 +1,82 @@
+-- Laws of a manager's bytes in place.
+use mathlib.Core.Path.{_≡_, refl, sym, ap, _∙_}
+use mathlib.Core.List.{List, []}
+use Prim.Native.Nat.{ℕ, zero, suc, _+_, _-_, _*_, _/_, _%_, _^_, _≤_, _<_}
+use native.Mathlib.Omega.{arith}
+use native.Mathlib.Nat.{lt-of-lt-of-le, mul-suc, mod-lt, add-mod}
+use lib.ListN.{length, getD, List·getD-eq-default, drop-of-length-le}
+use lib.Seq.{take-nil}
+use lib.Pow.{pow-add, pow-mono}
+use Rattle.blocks.specs.Blocks.{blockOf}
+use Rattle.manager.specs.Place.{ringLength, ringIndex, addressIn, byteIn, bytesFrom, placed, bytesOf}
+use Rattle.manager.specs.declared.Manager.{Manager}
+
+-- the place in the ring, each part reduced first
+module _ (m : Manager) (i ring : ℕ) (e : ring ≡ ringLength (m .blocks)) where
+  pub ring-fits : (a : ℕ) → a % ring + i % ring < 2 ^ 64
+  ring-fits a = omega (arith, mod-lt a some, mod-lt i some)
+    where
+      some : 0 < ring
+      some = omega arith
+
+  pub ring-below : m .at < m .base → i % ring ≡ ringIndex m i
+  ring-below h = rw (none, e) (ap (λ (n : ℕ). n % ringLength (m .blocks)) (omega arith))
+    where
+      none : m .at - m .base ≡ 0
+      none = omega arith
+
+  pub ring-sum : ((m .at - m .base) % ring + i % ring) % ring ≡ ringIndex m i
+  ring-sum = sym (add-mod (m .at - m .base) i ring) ∙ rw e refl
+
+-- as many bytes as the manager has, each where its block is
+module _ (f : ℕ → List ℕ) (size : ℕ) (m : Manager) where
+  bytes-length : (left j : ℕ) → length (bytesFrom f size m left j) ≡ left
+  unfolding bytesFrom
+  bytes-length zero j = refl
+  bytes-length (suc left) j = ap suc (bytes-length left (suc j))
+
+  bytes-at : (left j i : ℕ) → i < left → getD (bytesFrom f size m left j) i 0 ≡ byteIn f size m (j + i)
+  unfolding bytesFrom
+  bytes-at (suc left) j zero h = ap (byteIn f size m) (omega arith)
+  bytes-at (suc left) j (suc i) h = bytes-at left (suc j) i (omega arith) ∙ ap (byteIn f size m) (omega arith)
+
+  pub placed-length : length (placed f size m) ≡ m .size
+  unfolding placed
+  placed-length = bytes-length (m .size) 0
+
+  pub placed-there : (j : ℕ) → j < m .size → getD (placed f size m) j 0 ≡ byteIn f size m j
+  unfolding placed
+  placed-there j h = bytes-at (m .size) 0 j h ∙ ap (byteIn f size m) (omega arith)
+
+  pub placed-past : (j : ℕ) → m .size ≤ j → getD (placed f size m) j 0 ≡ 0
+  placed-past j h = List·getD-eq-default (placed f size m) 0 (omega (arith, placed-length))
+
+-- a byte in place is that byte of its block
+module _ (image : List ℕ) (size : ℕ) (m : Manager) (j : ℕ) (h : j < m .size) where
+  pub byte-there : (b : List ℕ) → b ≡ blockOf image size (addressIn m (j / size)) → getD (bytesOf image size m) j 0 ≡ getD b (j % size) 0
+  unfolding byteIn
+  byte-there b e = placed-there (blockOf image size) size m j h ∙ rw e refl
+
+  pub byte-none : size ≡ 0 → getD (bytesOf image size m) j 0 ≡ 0
+  unfolding byteIn blockOf
+  byte-none e = placed-there (blockOf image size) size m j h ∙ rw e refl
+
+-- a block number past every byte of an image
+pub block-past : (image : List ℕ) (size n : ℕ) → length image ≤ n → [] ≡ blockOf image size n
+unfolding blockOf
+block-past image zero n h = refl
+block-past image (suc size) n h = rw (drop-of-length-le image past, take-nil) refl
+  where
+    past : length image ≤ n * suc size
+    past = rw (mul-suc n size) (omega arith)
+
+-- one byte more fits one byte more
+pub more-fits : (w k v b : ℕ) → 0 < k → k ≤ w → v < 2 ^ (8 * (w - k)) → b < 256 → v * 256 + b < 2 ^ (8 * (w - (k - 1)))
+more-fits w k v b h l fits small = rw (e, pow-add 2 (8 * (w - k)) 8) (omega arith)
+  where
+    e : 8 * (w - (k - 1)) ≡ 8 * (w - k) + 8
+    e = omega arith
+
+-- a turn of the reader's loop finds at most seven bytes read
+pub room : (w k v : ℕ) → w ≤ 8 → 0 < k → v < 2 ^ (8 * (w - k)) → v < 2 ^ 56
+room w k v h l fits = lt-of-lt-of-le fits (pow-mono {j = 56} (omega arith))

@@ -1,0 +1,47 @@
+-- The lists that the code reads in place: what they hold, and what a test or a read of one answers.
+use mathlib.Core.Path.{_≡_}
+use mathlib.Core.List.{List, [], _∷_}
+use Prim.Native.Nat.{ℕ, zero, suc, _+_, _*_}
+use Rattle.fields.specs.Fields.{Number, num}
+use Rattle.blocks.specs.Reads.{run}
+use Rattle.blocks.specs.Answers.{seenAs}
+use Rattle.blocks.specs.declared.Seen.{Seen}
+use Rattle.manager.specs.Manager.{listFrom, poolIndices, poolBitmaps, poolIndicesAt, chunkInfos, chunkInfoCount, chunkInfosAt}
+use Rattle.manager.specs.Chunks.{chunkAt, chunkLength, chunkCount, chunksAt, chunksOf}
+use Rattle.manager.specs.declared.Chunk.{Chunk}
+
+-- left fields of w bytes from off on
+unfoldable pub values : ℕ → List ℕ → ℕ → ℕ → List ℕ
+values w sm zero off = []
+values w sm (suc left) off = num w sm off ∷ values w sm left (off + w)
+
+-- left records of chunks from byte e on
+unfoldable pub records : List ℕ → ℕ → ℕ → List Chunk
+records b zero e = []
+records b (suc left) e = chunkAt b e ∷ records b left (e + chunkLength)
+
+-- n fields of w bytes from off on: all of them, where they may be read whole
+abbrev pub FieldsSeen : ℕ → List ℕ → ℕ → ℕ → Seen → Type 0
+FieldsSeen w sm n off r = (f : ℕ → List ℕ) → seenAs (values w sm n off) r ≡ run f (listFrom w sm n off)
+
+-- the same of a list whose count and offset stand in two fields, and a read of its entry i
+abbrev pub ListSeen : ℕ → ℕ → ℕ → List ℕ → Seen → Type 0
+ListSeen w count start sm r = FieldsSeen w sm (num 4 sm count) (num 4 sm start) r
+
+abbrev pub EntryRead : ℕ → ℕ → List ℕ → ℕ → ℕ → Type 0
+EntryRead w start sm i r = Number w sm (num 4 sm start + w * i) r
+
+abbrev pub IndicesSeen : List ℕ → Seen → Type 0
+IndicesSeen sm r = (f : ℕ → List ℕ) → seenAs (values 2 sm (poolBitmaps sm) (poolIndicesAt sm)) r ≡ run f (poolIndices sm)
+
+abbrev pub InfosSeen : List ℕ → Seen → Type 0
+InfosSeen sm r = (f : ℕ → List ℕ) → seenAs (values 8 sm (chunkInfoCount sm) (chunkInfosAt sm)) r ≡ run f (chunkInfos sm)
+
+abbrev pub IndexRead : List ℕ → ℕ → ℕ → Type 0
+IndexRead sm i r = Number 2 sm (poolIndicesAt sm + 2 * i) r
+
+abbrev pub InfoRead : List ℕ → ℕ → ℕ → Type 0
+InfoRead sm i r = Number 8 sm (chunkInfosAt sm + 8 * i) r
+
+abbrev pub ChunksSeen : List ℕ → Seen → Type 0
+ChunksSeen b r = (f : ℕ → List ℕ) → seenAs (records b (chunkCount b) chunksAt) r ≡ run f (chunksOf b)

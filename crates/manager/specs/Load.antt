@@ -1,0 +1,71 @@
+-- The loader's steps, each as one function of the code makes it.
+use mathlib.Core.Path.{_≡_}
+use mathlib.Core.List.{List, [], _++_}
+use Prim.Native.Nat.{ℕ, zero, suc, _+_, _%_, _≤_, _<_}
+use lib.Dec.{leb, eqb}
+use lib.ListN.{length, take, drop}
+use Rattle.fletcher.specs.Fletcher.{verifies}
+use Rattle.blocks.specs.Reads.{Reads, done, Outcome, refused, run, _>>=_, need}
+use Rattle.blocks.specs.Blocks.{Holds}
+use Rattle.blocks.specs.Answers.{seenAs}
+use Rattle.blocks.specs.declared.Container.{Container}
+use Rattle.blocks.specs.declared.Refusal.the-variants.{BadChecksum, OutsideBytes, AddressBlocks}
+use Rattle.blocks.specs.declared.Seen.{Seen}
+use Rattle.blocks.specs.declared.Seen.the-variants as seen
+use Rattle.checkpoint.specs.declared.Mapping.{Mapping}
+use Rattle.manager.specs.Manager.{managerFrom, blocksFor, leastManager, addressBlockCount}
+use Rattle.manager.specs.Place.{placeOf, addressIn}
+use Rattle.manager.specs.declared.Manager.{Manager}
+
+-- what follows a test, and a fact of what passed it
+abbrev pub onward : {A : Type 0} → Seen → Outcome A → Outcome A
+onward seen.There o = o
+onward (seen.Refused r) o = refused r
+
+abbrev pub IfThere : Seen → Type 0 → Type 0
+IfThere seen.There P = P
+IfThere (seen.Refused r) P = Unit {0}
+
+-- the first n blocks, one after another
+unfoldable pub joined : (ℕ → List ℕ) → Manager → ℕ → List ℕ
+joined f m zero = []
+joined f m (suc n) = joined f m n ++ f (addressIn m n)
+
+-- block i: its refusal, or what the blocks after it come to
+abbrev pub BlockGoes : (ℕ → List ℕ) → Container → List ℕ → Mapping → ℕ → Seen → Type 0
+BlockGoes f c sb mp i r =
+    (left : ℕ) (found : List ℕ)
+    → run f (managerFrom c sb (mp .address .0) (suc left) i found)
+    ≡ onward r (run f (managerFrom c sb (mp .address .0) left (i + 1) (found ++ f (addressIn (placeOf sb mp) i))))
+
+pub record BlockSeen (c : Container) (m : Manager) (i : ℕ) (r : Seen) : Type 0 where
+  pub goes : (f : ℕ → List ℕ) (sb : List ℕ) (mp : Mapping) → m ≡ placeOf sb mp → BlockGoes f c sb mp i r
+  pub inside : IfThere r (addressIn m i < c .count)
+
+-- n blocks
+abbrev pub BlocksGo : (ℕ → List ℕ) → Container → List ℕ → Mapping → ℕ → Seen → Type 0
+BlocksGo f c sb mp n r = seenAs (joined f (placeOf sb mp) n) r ≡ run f (managerFrom c sb (mp .address .0) n 0 [])
+
+pub record BlocksSeen (c : Container) (m : Manager) (n : ℕ) (r : Seen) : Type 0 where
+  pub goes : (f : ℕ → List ℕ) (sb : List ℕ) (mp : Mapping) → m ≡ placeOf sb mp → BlocksGo f c sb mp n r
+  pub inside : IfThere r ((i : ℕ) → i < n → addressIn m i < c .count)
+
+-- an image that has every block of a manager
+pub record Stands (image : List ℕ) (c : Container) (m : Manager) : Type 0 where
+  pub holds : Holds image c
+  pub inside : (i : ℕ) → i < blocksFor c (m .size) → addressIn m i < c .count
+
+-- a piece of a manager's bytes, in whole words, from a place on
+pub record Piece (sm : List ℕ) (pos : ℕ) (b : List ℕ) : Type 0 where
+  pub is : b ≡ take (length b) (drop pos sm)
+  pub some : 0 < length b
+  pub whole : length b % 4 ≡ 0
+  pub fits : pos + length b ≤ length sm
+
+-- what is tested once the blocks are there
+unfoldable pub accepted : List ℕ → Reads (List ℕ)
+accepted sm = do
+  _ ← need (verifies sm) BadChecksum
+  _ ← need (leb leastManager (length sm)) OutsideBytes
+  _ ← need (eqb (addressBlockCount sm) 0) AddressBlocks
+  done sm
