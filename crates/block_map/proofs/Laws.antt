@@ -5,9 +5,10 @@ use Prim.Native.Nat.{ℕ, zero, suc, _+_, _-_, _/_, _%_, _^_, _<_}
 use native.Mathlib.Nat.{add-comm}
 use native.Mathlib.Omega.{arith}
 use lib.Bits.{bitAnd, bitOr, or-add-and, or-shifted, and-high, and-mask}
-use lib.ListN.{getD, set}
+use lib.ListN.{getD, set, length-set}
+use lib.Seq.{drop-set-lt}
 use lib.Pow.{split, high-ones, mod-pow-add}
-use Rattle.block_map.specs.BlockMap.{withBit, ownedBy, update}
+use Rattle.block_map.specs.BlockMap.{Kept, withBit, ownedBy, update, cleared}
 
 -- bit k set by an or
 pub bit-set : (k x : ℕ) → bitOr x (2 ^ k) ≡ withBit k x
@@ -30,3 +31,18 @@ update-set f (suc a) (x ∷ map) = ap (λ (l : List ℕ). x ∷ l) (update-set f
 -- from what a write, a change and a read ensure
 pub updated : (f : ℕ → ℕ) (a : ℕ) (map after : List ℕ) (x y : ℕ) → after ≡ set map a y → y ≡ f x → x ≡ getD map a 0 → after ≡ update f a map
 updated f a map after x y p q r = p ∙ rw (q, r) (sym (update-set f a map))
+
+-- bytes past the block count, kept from step to step
+pub kept-same : (count : ℕ) (map : List ℕ) → Kept count map map
+kept-same count map = record { long = refl; past = refl }
+
+pub kept-then : (count : ℕ) (before between after : List ℕ) → Kept count before between → Kept count between after → Kept count before after
+kept-then count before between after h k = record { long = k .long ∙ h .long; past = k .past ∙ h .past }
+
+pub kept-update : (count : ℕ) (f : ℕ → ℕ) (a : ℕ) (map : List ℕ) → a < count → Kept count map (update f a map)
+kept-update count f a map h = record { long = rw (update-set f a map) (simp length-set); past = rw (update-set f a map) (drop-set-lt count map a _ h) }
+
+-- once its blocks' bytes are zeroed, a map that a step left is as it would have been before
+pub kept-cleared : (count : ℕ) (before after : List ℕ) → Kept count before after → cleared count after ≡ cleared count before
+unfolding cleared
+kept-cleared count before after h = rw (h .past) refl

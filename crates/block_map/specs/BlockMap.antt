@@ -1,9 +1,10 @@
 -- "Block map: one byte for each block, bits 0 to 3 owner, bit 4 marked, bit 5 pool-used, others 0."
 use mathlib.Core.Bool.{Bool, _&&_}
 use mathlib.Core.List.{List, [], _∷_, _++_}
+use mathlib.Core.Path.{_≡_}
 use Prim.Native.Nat.{ℕ, zero, suc, _+_, _*_, _/_, _%_, _^_}
 use lib.Dec.{ltb}
-use lib.ListN.{getD, drop, replicate}
+use lib.ListN.{length, getD, drop, replicate}
 use Rattle.fields.specs.Choice.{pick, choose}
 use Rattle.fields.specs.Fields.{bit}
 use Rattle.blocks.specs.declared.Container.{Container}
@@ -43,6 +44,11 @@ usedAt c map a = ltb a (c .count) && isUsed (getD map a 0)
 -- one byte for each block zeroed, those past the count kept
 unfoldable pub cleared : ℕ → List ℕ → List ℕ
 cleared count map = replicate count 0 ++ drop count map
+
+-- what a step may do to a map: bytes past the block count are the caller's
+pub record Kept (count : ℕ) (before after : List ℕ) : Type 0 where
+  pub long : length after ≡ length before
+  pub past : drop count after ≡ drop count before
 
 -- how many of the blocks' bytes meet a test, after n
 unfoldable pub countIn : (ℕ → Bool) → List ℕ → ℕ → ℕ

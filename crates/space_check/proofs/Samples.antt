@@ -18,11 +18,11 @@ use Rattle.manager.specs.Chunks.{chunksOf}
 use Rattle.manager.specs.declared.Chunk.{Chunk}
 use Rattle.block_map.specs.BlockMap.{Marked, ownerOf, countIn}
 use Rattle.report.specs.Report.{noProblems, noOverlaps, endingNumber}
-use Rattle.space_check.specs.Pool.{Pool, poolMarked}
-use Rattle.space_check.specs.Audit.{auditChunk, auditQueued}
-use Rattle.space_check.specs.Claims.{claim, claimQueued}
+use Rattle.pool.specs.Pool.{Pool, poolMarked}
+use Rattle.audit.specs.Audit.{auditChunk, auditQueued}
+use Rattle.claims.specs.Claims.{claim, claimQueued}
 use Rattle.space_check.specs.Check.{check}
-use Rattle.space_check.specs.declared.Audit.{Audit}
+use Rattle.audit.specs.declared.Audit.{Audit}
 use Rattle.report.specs.declared.OverlapLog.{OverlapLog}
 use Rattle.space_check.proofs.Computing.{computed}
 

@@ -1,7 +1,6 @@
 -- The whole pass. A reader may start here and go down.
-use mathlib.Core.Bool.{Bool, not, _&&_}
 use mathlib.Core.List.{List, [], _∷_}
-use Prim.Native.Nat.{ℕ, zero, suc, _+_}
+use Prim.Native.Nat.{ℕ, _+_}
 use lib.Dec.{leb, eqb}
 use lib.ListN.{length, take}
 use Rattle.fields.specs.Choice.{pick}
@@ -19,14 +18,15 @@ use Rattle.checkpoint.specs.Geometry.{geometry, leastSize}
 use Rattle.checkpoint.specs.Checkpoint.{Taken, takeSuperblock, admit}
 use Rattle.checkpoint.specs.declared.Geometry.{Geometry}
 use Rattle.manager.specs.Manager.{manager, chunkInfos, deviceFree, poolBase, poolBlocks, poolRingBase, poolRingBlocks, poolQueue, mainQueue}
-use Rattle.block_map.specs.BlockMap.{Marked, ownerOf, isMarked, isUsed, cleared, countIn, firstIn}
+use Rattle.block_map.specs.BlockMap.{Marked, isUsed, cleared, countIn}
 use Rattle.report.specs.Report.{noProblems, noOverlaps, kinds, refusal, reported}
-use Rattle.space_check.specs.Pool.{Pool, loadPool, unusedFrom}
-use Rattle.space_check.specs.Queue.{queue}
-use Rattle.space_check.specs.Audit.{auditInfos, auditQueued}
-use Rattle.space_check.specs.Claims.{unowned, containerSuperblock, descriptorArea, dataArea, internalPool, poolBitmapRing, objectMap, claim, claimNode, claimMapping, claimQueued}
+use Rattle.pool.specs.Pool.{Pool, loadPool, unusedFrom}
+use Rattle.queue.specs.Queue.{queue}
+use Rattle.totals.specs.Totals.{lostFrom, isLeaked}
+use Rattle.audit.specs.Audit.{auditInfos, auditQueued}
+use Rattle.claims.specs.Claims.{containerSuperblock, descriptorArea, dataArea, internalPool, poolBitmapRing, objectMap, claim, claimNode, claimMapping, claimQueued}
 use Rattle.report.specs.declared.Answer.{Answer}
-use Rattle.space_check.specs.declared.Audit.{Audit}
+use Rattle.audit.specs.declared.Audit.{Audit}
 use Rattle.report.specs.declared.Lost.{Lost}
 use Rattle.report.specs.declared.OverlapLog.{OverlapLog}
 use Rattle.report.specs.declared.Report.{Report}
@@ -63,24 +63,10 @@ claims c t sm root map = do
   s₂ ← claimObjects c root s₁
   queue c (t .map) (claimQueued c) (mainQueue sm) s₂
 
--- "per kind, blocks owned but unmarked (lost) and the first such"
-unfoldable pub isLost : ℕ → ℕ → Bool
-isLost kind x = eqb (ownerOf x) kind && not (isMarked x)
-
-unfoldable pub lostOf : List ℕ → ℕ → Lost
-lostOf cells kind = record { count = countIn (isLost kind) cells 0; first = firstIn (isLost kind) cells 0 }
-
-unfoldable pub lostFrom : List ℕ → ℕ → ℕ → List Lost
-lostFrom cells zero kind = []
-lostFrom cells (suc left) kind = lostOf cells kind ∷ lostFrom cells left (kind + 1)
-
+-- lost blocks of all kinds, after n
 unfoldable pub lostIn : List Lost → ℕ → ℕ
 lostIn [] n = n
 lostIn (l ∷ ls) n = lostIn ls (n + l .count)
-
--- "blocks marked but unowned (leaked)"
-unfoldable pub isLeaked : ℕ → Bool
-isLeaked x = eqb (ownerOf x) unowned && isMarked x
 
 -- "verdict (1 consistent, 2 inconsistent)"
 abbrev pub consistent : ℕ

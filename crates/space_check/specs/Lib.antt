@@ -1,6 +1,2 @@
--- The pass: the pool and its audit, the queues, the claims, the whole.
-pub mod Pool
-pub mod Queue
-pub mod Audit
-pub mod Claims
+-- The pass: the audit, the claims, the report, the whole.
 pub mod Check

@@ -1,9 +1,9 @@
 use Rattle.fields.proofs.Laws.{below-limit, past-limit}
-use Rattle.space_check.specs.Pool.{poolMarked}
+use Rattle.pool.specs.Pool.{poolMarked}
 use mathlib.Core.Path.{_∙_}
 use borrow.Author.Needs.{needs}
-use Rattle.space_check.proofs.pool_marked.Statement.{statement}
-use Rattle.space_check.proofs.pool_marked.Tie as tie
+use Rattle.pool.proofs.pool_marked.Statement.{statement}
+use Rattle.pool.proofs.pool_marked.Tie as tie
 
 pool-index-requires : tie.Need-pool-index-requires
 pool-index-requires c κs = search needs

@@ -15,9 +15,9 @@ use Rattle.manager.specs.Chunks.{chunksOf}
 use Rattle.manager.specs.declared.Chunk.{Chunk}
 use Rattle.block_map.specs.BlockMap.{Marked, update, usedAt, marked, used}
 use Rattle.report.specs.Report.{addProblem}
-use Rattle.space_check.specs.Pool.{Pool, poolMarked}
-use Rattle.space_check.specs.Queue.{runOf}
-use Rattle.space_check.specs.declared.Audit.{Audit}
+use Rattle.pool.specs.Pool.{Pool, poolMarked}
+use Rattle.queue.specs.Queue.{runOf}
+use Rattle.audit.specs.declared.Audit.{Audit}
 
 -- "Problems, in the order met"
 abbrev pub infoUnmarked : ℕ

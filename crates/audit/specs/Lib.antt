@@ -1,0 +1,2 @@
+-- The audit of bitmaps and of the pool.
+pub mod Audit

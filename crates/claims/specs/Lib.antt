@@ -1,0 +1,2 @@
+-- The claims on blocks.
+pub mod Claims

@@ -1,0 +1,1 @@
+// The claims: who owns each block.

@@ -1,0 +1,2 @@
+-- The internal pool and its bitmap.
+pub mod Pool

@@ -1,0 +1,2 @@
+-- Free queues.
+pub mod Queue

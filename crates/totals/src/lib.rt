@@ -1,0 +1,1 @@
+// The figures that are counted on the final block map.
