@@ -1,0 +1,3 @@
+-- Laws of scans and walks.
+pub mod ScanLaws
+pub mod WalkLaws

@@ -1,0 +1,3 @@
+-- What is done at the entries and nodes of trees.
+pub mod Visits
+pub mod Walks

@@ -1,0 +1,56 @@
+-- One scan for all purposes: what it does at an entry, and how its tree names a child.
+use mathlib.Core.List.{List}
+use Prim.Native.Nat.{ℕ, zero, suc, _+_}
+use lib.Dec.{eqb}
+use Rattle.blocks.specs.Reads.{Reads, done, _>>=_, need}
+use Rattle.blocks.specs.declared.Container.{Container}
+use Rattle.blocks.specs.declared.Refusal.the-variants.{WrongLevel}
+use Rattle.nodes.specs.Node.{Entry, readNode, entry, pointer, levelOf}
+use Rattle.nodes.specs.Scan.{lookAt}
+use Rattle.nodes.specs.declared.Description.{Description}
+use Rattle.checkpoint.specs.declared.Mapped.{Mapped}
+use Rattle.block_map.specs.BlockMap.{Marked}
+use Rattle.report.specs.declared.OverlapLog.{OverlapLog}
+use Rattle.pool.specs.Pool.{Pool}
+use Rattle.queue.specs.Queue.{nodeBy}
+use Rattle.audit.specs.Audit.{auditQueued}
+use Rattle.audit.specs.declared.Audit.{Audit}
+use Rattle.claims.specs.Claims.{claimMapping, claimQueued}
+use Rattle.trees.specs.declared.Figures.{Figures}
+use Rattle.trees.specs.declared.Purpose.{Purpose}
+use Rattle.trees.specs.declared.Purpose.the-variants.{PoolQueue, Mappings, MainQueue}
+
+-- the audit's part of what a pass has counted, and the claims'; each leaves the other as it was
+abbrev pub auditIn : Marked Figures → Marked Audit
+auditIn s = record { map = s .map; figures = s .figures .audit }
+
+abbrev pub withAudit : OverlapLog → Marked Audit → Marked Figures
+withAudit o t = record { map = t .map; figures = record { audit = t .figures; overlaps = o } }
+
+abbrev pub overlapsIn : Marked Figures → Marked OverlapLog
+overlapsIn s = record { map = s .map; figures = s .figures .overlaps }
+
+abbrev pub withOverlaps : Audit → Marked OverlapLog → Marked Figures
+withOverlaps a t = record { map = t .map; figures = record { audit = a; overlaps = t .figures } }
+
+unfoldable pub visitFor : Container → Pool → Purpose → Marked Figures → Entry → Reads (Marked Figures)
+visitFor c p PoolQueue s e = auditQueued c p (auditIn s) e >>= λ t. done (withAudit (s .figures .overlaps) t)
+visitFor c p Mappings s e = claimMapping c (overlapsIn s) e >>= λ t. done (withOverlaps (s .figures .audit) t)
+visitFor c p MainQueue s e = claimQueued c (overlapsIn s) e >>= λ t. done (withOverlaps (s .figures .audit) t)
+
+-- a child of the object map's tree is named by its address, a queue's by its id, which the map turns into one
+unfoldable pub childFor : Container → (ℕ → Mapped) → Purpose → ℕ → Reads (List ℕ)
+childFor c mapped Mappings n = readNode c (record { 0 = n })
+childFor c mapped PoolQueue n = nodeBy c (mapped n)
+childFor c mapped MainQueue n = nodeBy c (mapped n)
+
+-- child i of an index node of a level, of which left come after it: "entry i + 1 is looked at before child i is read",
+-- "each child must be exactly one level below its parent"
+unfoldable pub childBelow : Description → (ℕ → Reads (List ℕ)) → ℕ → List ℕ → ℕ → ℕ → Reads (List ℕ)
+childBelow d child level b left i = do
+  e ← entry d b i
+  _ ← lookAt d b left (i + 1)
+  a ← pointer (e .value)
+  n ← child a
+  _ ← need (eqb (levelOf n + 1) level) WrongLevel
+  done n

@@ -1,0 +1,44 @@
+// Trees scanned for their entries and walked for their nodes (btree.rs).
+use audit::Audit;
+use blocks::Refusal;
+use report::OverlapLog;
+use report::Step;
+
+// What the entries of a scanned tree are for.
+pub enum Purpose {
+    PoolQueue,
+    Mappings,
+    MainQueue,
+}
+
+// What a pass has counted: the audit's figures and the claims'.
+pub struct Figures {
+    pub audit: Audit,
+    pub overlaps: OverlapLog,
+}
+
+// The figures after a step that also changed the block map.
+pub struct Visited {
+    pub step: Step,
+    pub figures: Figures,
+}
+
+// How a walk goes on at a node that was visited.
+pub enum Way {
+    Leaf,
+    Index,
+    Refused(Refusal),
+}
+
+// A walk so far: how many nodes may still come, and the claims' log.
+pub struct Walked {
+    pub step: Step,
+    pub left: u64,
+    pub log: OverlapLog,
+}
+
+// The claims' log after a node was visited.
+pub struct Entered {
+    pub way: Way,
+    pub log: OverlapLog,
+}
