@@ -1,0 +1,2 @@
+-- Laws of the pool's bitmap in place.
+pub mod Laws

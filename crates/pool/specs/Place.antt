@@ -1,0 +1,31 @@
+-- The pool where it stands: its bitmap is blocks of a ring, found through the manager's list of indices and read in place.
+use mathlib.Core.List.{List, [], _∷_}
+use Prim.Native.Nat.{ℕ, zero, suc, _+_, _*_, _/_, _%_}
+use lib.ListN.{getD}
+use Rattle.fields.specs.Fields.{num}
+use Rattle.manager.specs.Manager.{poolBitmaps, poolIndicesAt}
+use Rattle.manager.specs.Place.{placed}
+use Rattle.pool.specs.Pool.{Pool}
+use Rattle.pool.specs.declared.PoolPlace.{PoolPlace}
+
+-- where block i of the bitmap is in its ring, and that block
+abbrev pub ringPlace : (ℕ → List ℕ) → ℕ → PoolPlace → ℕ → ℕ
+ringPlace f size p i = num 2 (placed f size (p .manager)) (poolIndicesAt (placed f size (p .manager)) + 2 * i)
+
+unfoldable pub bitmapBlock : (ℕ → List ℕ) → ℕ → PoolPlace → ℕ → List ℕ
+bitmapBlock f size p i = f (p .ring + ringPlace f size p i)
+
+-- byte j of the bitmap
+unfoldable pub bitmapByte : (ℕ → List ℕ) → ℕ → PoolPlace → ℕ → ℕ
+bitmapByte f size p j = getD (bitmapBlock f size p (j / size)) (j % size) 0
+
+-- the bytes from j on, of which left are left
+unfoldable pub bitmapBytes : (ℕ → List ℕ) → ℕ → PoolPlace → ℕ → ℕ → List ℕ
+bitmapBytes f size p zero j = []
+bitmapBytes f size p (suc left) j = bitmapByte f size p j ∷ bitmapBytes f size p left (suc j)
+
+unfoldable pub bitmapIn : (ℕ → List ℕ) → ℕ → PoolPlace → List ℕ
+bitmapIn f size p = bitmapBytes f size p (poolBitmaps (placed f size (p .manager)) * size) 0
+
+abbrev pub poolIn : (ℕ → List ℕ) → ℕ → PoolPlace → Pool
+poolIn f size p = record { base = p .base; blocks = p .blocks; bits = bitmapIn f size p }
