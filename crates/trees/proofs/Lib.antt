@@ -1,3 +1,4 @@
 -- Laws of scans and walks.
+pub mod ChildLaws
 pub mod ScanLaws
 pub mod WalkLaws

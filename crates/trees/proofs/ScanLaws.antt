@@ -15,7 +15,7 @@ use Rattle.blocks.specs.declared.Refusal.the-variants.{WrongLevel}
 use Rattle.nodes.specs.Node.{Entry, isLeaf, levelOf, keyCount, entry, pointer}
 use Rattle.nodes.specs.Scan.{leafFrom, lookAt, indexFrom, scanNode, below, scan}
 use Rattle.nodes.specs.declared.Description.{Description}
-use Rattle.trees.specs.Visits.{childBelow}
+use Rattle.trees.specs.Visits.{pointerPast, oneBelow, childBelow}
 
 -- sequences, whatever comes after
 
@@ -54,13 +54,17 @@ module _ {S : Type 0} (f : ℕ → List ℕ) (visit : S → Entry → Reads S) (
 
   index-step : (level left i : ℕ) (b : List ℕ) (s : S)
       → indexLeft level b (suc left) i s ≡ run f (childBelow d child level b left i >>= λ n. scanNode visit d child (below visit d child (pred level)) n s >>= indexFrom visit d child (below visit d child level) b left (i + 1))
-  unfolding indexFrom childBelow
+  unfolding indexFrom childBelow pointerPast oneBelow
   index-step level left i b s =
-      bind-cong f (entry d b i) _ _ (λ e. bind-cong f (lookAt d b left (i + 1)) _ _ (λ u. bind-cong f (pointer (e .value)) _ _ (λ a. bind-cong f (child a) _ _ (λ n. below-step level n s rest) ∙ sym (bind-assoc f (child a) _ next)) ∙ sym (bind-assoc f (pointer (e .value)) _ next)) ∙ sym (bind-assoc f (lookAt d b left (i + 1)) _ next))
-      ∙ sym (bind-assoc f (entry d b i) _ next)
+      sym (bind-assoc f (entry d b i) _ child-first ∙ bind-cong f (entry d b i) _ _ (λ e. bind-assoc f (lookAt d b left (i + 1)) _ child-first))
+      ∙ bind-cong f (pointerPast d b left i) _ _ (λ a. bind-cong f (child a) _ _ (λ n. below-step level n s rest) ∙ sym (bind-assoc f (child a) _ next))
+      ∙ sym (bind-assoc f (pointerPast d b left i) _ next)
     where
       rest : S → Reads S
       rest = indexFrom visit d child (below visit d child level) b left (i + 1)
+
+      child-first : ℕ → Reads S
+      child-first a = child a >>= λ n. below visit d child level n s >>= rest
 
       next : List ℕ → Reads S
       next n = scanNode visit d child (below visit d child (pred level)) n s >>= rest

@@ -1,6 +1,6 @@
 -- One scan for all purposes: what it does at an entry, and how its tree names a child.
 use mathlib.Core.List.{List}
-use Prim.Native.Nat.{ℕ, zero, suc, _+_}
+use Prim.Native.Nat.{ℕ, _+_}
 use lib.Dec.{eqb}
 use Rattle.blocks.specs.Reads.{Reads, done, _>>=_, need}
 use Rattle.blocks.specs.declared.Container.{Container}
@@ -8,6 +8,8 @@ use Rattle.blocks.specs.declared.Refusal.the-variants.{WrongLevel}
 use Rattle.nodes.specs.Node.{Entry, readNode, entry, pointer, levelOf}
 use Rattle.nodes.specs.Scan.{lookAt}
 use Rattle.nodes.specs.declared.Description.{Description}
+use Rattle.checkpoint.specs.InPlace.{lookupIn}
+use Rattle.checkpoint.specs.declared.Geometry.{Geometry}
 use Rattle.checkpoint.specs.declared.Mapped.{Mapped}
 use Rattle.block_map.specs.BlockMap.{Marked}
 use Rattle.report.specs.declared.OverlapLog.{OverlapLog}
@@ -16,6 +18,7 @@ use Rattle.queue.specs.Queue.{nodeBy}
 use Rattle.audit.specs.Audit.{auditQueued}
 use Rattle.audit.specs.declared.Audit.{Audit}
 use Rattle.claims.specs.Claims.{claimMapping, claimQueued}
+use Rattle.trees.specs.declared.Checkpoint.{Checkpoint}
 use Rattle.trees.specs.declared.Figures.{Figures}
 use Rattle.trees.specs.declared.Purpose.{Purpose}
 use Rattle.trees.specs.declared.Purpose.the-variants.{PoolQueue, Mappings, MainQueue}
@@ -44,13 +47,27 @@ childFor c mapped Mappings n = readNode c (record { 0 = n })
 childFor c mapped PoolQueue n = nodeBy c (mapped n)
 childFor c mapped MainQueue n = nodeBy c (mapped n)
 
--- child i of an index node of a level, of which left come after it: "entry i + 1 is looked at before child i is read",
--- "each child must be exactly one level below its parent"
-unfoldable pub childBelow : Description → (ℕ → Reads (List ℕ)) → ℕ → List ℕ → ℕ → ℕ → Reads (List ℕ)
-childBelow d child level b left i = do
+-- how the map of a checkpoint's superblock turns an id into an address
+abbrev pub geometryIn : Checkpoint → Geometry
+geometryIn k = record { size = k .container .size; count = k .container .count; base = k .base; ring = k .ring }
+
+abbrev pub mappedIn : (ℕ → List ℕ) → Checkpoint → ℕ → Mapped
+mappedIn f k id = lookupIn f (geometryIn k) (f (k .superblock)) (record { 0 = id })
+
+-- the pointer of entry i of an index node, of which left come after it: "entry i + 1 is looked at before child i is read"
+unfoldable pub pointerPast : Description → List ℕ → ℕ → ℕ → Reads ℕ
+pointerPast d b left i = do
   e ← entry d b i
   _ ← lookAt d b left (i + 1)
-  a ← pointer (e .value)
+  pointer (e .value)
+
+-- "each child must be exactly one level below its parent"
+unfoldable pub oneBelow : ℕ → List ℕ → Reads (List ℕ)
+oneBelow level n = need (eqb (levelOf n + 1) level) WrongLevel >>= λ _. done n
+
+-- the child that it names, of a node of a level
+unfoldable pub childBelow : Description → (ℕ → Reads (List ℕ)) → ℕ → List ℕ → ℕ → ℕ → Reads (List ℕ)
+childBelow d child level b left i = do
+  a ← pointerPast d b left i
   n ← child a
-  _ ← need (eqb (levelOf n + 1) level) WrongLevel
-  done n
+  oneBelow level n

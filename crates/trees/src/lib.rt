@@ -1,14 +1,35 @@
 // Trees scanned for their entries and walked for their nodes (btree.rs).
 use audit::Audit;
+use blocks::Container;
 use blocks::Refusal;
+use nodes::Description;
+use pool::PoolPlace;
 use report::OverlapLog;
 use report::Step;
+
+pub mod children;
 
 // What the entries of a scanned tree are for.
 pub enum Purpose {
     PoolQueue,
     Mappings,
     MainQueue,
+}
+
+// The checkpoint that a pass takes: its container, the descriptor area that block 0 names, and its superblock's block.
+pub struct Checkpoint {
+    pub container: Container,
+    pub base: u64,
+    pub ring: u64,
+    pub superblock: u64,
+}
+
+// A tree to scan.
+pub struct Tree {
+    pub checkpoint: Checkpoint,
+    pub pool: PoolPlace,
+    pub purpose: Purpose,
+    pub description: Description,
 }
 
 // What a pass has counted: the audit's figures and the claims'.
