@@ -1,9 +1,9 @@
 // The block map: a byte for each block, bits 0 to 3 its owner, bit 4 marked, bit 5 used in the pool.
 use blocks::Container;
 ghost use mathlib.Core.Path.{_≡_};
-ghost use Prim.Native.Nat.{_%_};
-ghost use lib.ListN.{getD, set};
-ghost use Rattle.block_map.specs.BlockMap.{ownerOf, isMarked, isUsed, marked, used, ownedBy, update, usedAt};
+ghost use Prim.Native.Nat.{_%_, _≤_};
+ghost use lib.ListN.{length, getD, set};
+ghost use Rattle.block_map.specs.BlockMap.{ownerOf, isMarked, isUsed, marked, used, ownedBy, update, usedAt, cleared};
 
 pub fn owner(x: u8) -> u8
     ensures { λ r. ⌜ r ≡ ownerOf x ⌝ }
@@ -93,5 +93,18 @@ pub fn used_at(map: &[u8], c: Container, a: u64) -> bool
         is_used(cell(map, a))
     } else {
         false
+    }
+}
+
+// Zeroes each block's byte. One that is 0 isn't written: a page never written costs no memory.
+pub fn clear(map: &mut [u8], count: u64)
+    requires { ⌜ count ≤ length (now map) ⌝ }
+    ensures { λ r. ⌜ now (map .exit) ≡ cleared count (now (map .entry)) ⌝ }
+{
+    let end = count as usize;
+    for i in 0..end {
+        if map[i] != 0 {
+            map[i] = 0;
+        }
     }
 }

@@ -17,11 +17,11 @@ use Rattle.manager.specs.Chunks.{chunkAt, chunksFrom}
 use Rattle.manager.specs.Manager.{managerFrom, managerAt, managerBy, manager, listFrom}
 use Rattle.audit.specs.Audit.{unless, enter, markFrom, tally, auditBitmap, auditChunk, auditChunks, auditInfo, auditInfos, auditQueuedFrom, auditQueued}
 use Rattle.block_map.specs.BlockMap.{update, usedAt, cleared, countIn, firstIn}
-use Rattle.space_check.specs.Check.{Result, audit, claimAreas, claimObjects, claims, lostIn, verdictOf, reportOf, body, rest, pass, settle, checkIn, check}
+use Rattle.space_check.specs.Check.{Result, audit, claimAreas, claimObjects, claims, reportOf, body, rest, pass, settle, checkIn, check}
 use Rattle.claims.specs.Claims.{claimBlock, claimFrom, claim, claimNode, claimMapped, claimMapping, claimQueued}
 use Rattle.pool.specs.Pool.{bitmapsFrom, loadPool, poolMarked, unusedFrom}
 use Rattle.queue.specs.Queue.{runCount, runOf, nodeBy, scanQueue, queue}
-use Rattle.totals.specs.Totals.{isLost, lostOf, lostFrom, isLeaked}
+use Rattle.totals.specs.Totals.{isLost, lostOf, lostFrom, isLeaked, lostIn, verdictOf}
 use Rattle.report.specs.Report.{noProblems, noOverlaps, note, addProblem, addOverlap, zeroReport, refusal, reported, endingNumber}
 
 unfoldable pub computed : List ℕ → List ℕ → Result

@@ -4,7 +4,8 @@ use mathlib.Core.List.{List, [], _∷_, _++_}
 use Prim.Native.Nat.{ℕ}
 use lib.ListN.{replicate}
 use Rattle.blocks.specs.declared.Refusal.the-variants.{NoCheckpoint, BadChecksum}
-use Rattle.space_check.specs.Check.{check, consistent}
+use Rattle.space_check.specs.Check.{check}
+use Rattle.totals.specs.Totals.{consistent}
 use Rattle.report.specs.Report.{noProblems, noOverlaps, kinds, refusal, reported}
 use Rattle.report.specs.declared.Report.{Report}
 use Rattle.space_check.proofs.Computing.{computed}

@@ -1,7 +1,7 @@
 -- The whole pass. A reader may start here and go down.
-use mathlib.Core.List.{List, [], _∷_}
-use Prim.Native.Nat.{ℕ, _+_}
-use lib.Dec.{leb, eqb}
+use mathlib.Core.List.{List}
+use Prim.Native.Nat.{ℕ}
+use lib.Dec.{leb}
 use lib.ListN.{length, take}
 use Rattle.fields.specs.Choice.{pick}
 use Rattle.blocks.specs.Reads.{Reads, Outcome, given, refused, run, noBlocks, done, _>>=_}
@@ -22,12 +22,11 @@ use Rattle.block_map.specs.BlockMap.{Marked, isUsed, cleared, countIn}
 use Rattle.report.specs.Report.{noProblems, noOverlaps, kinds, refusal, reported}
 use Rattle.pool.specs.Pool.{Pool, loadPool, unusedFrom}
 use Rattle.queue.specs.Queue.{queue}
-use Rattle.totals.specs.Totals.{lostFrom, isLeaked}
+use Rattle.totals.specs.Totals.{lostFrom, isLeaked, verdictOf}
 use Rattle.audit.specs.Audit.{auditInfos, auditQueued}
 use Rattle.claims.specs.Claims.{containerSuperblock, descriptorArea, dataArea, internalPool, poolBitmapRing, objectMap, claim, claimNode, claimMapping, claimQueued}
 use Rattle.report.specs.declared.Answer.{Answer}
 use Rattle.audit.specs.declared.Audit.{Audit}
-use Rattle.report.specs.declared.Lost.{Lost}
 use Rattle.report.specs.declared.OverlapLog.{OverlapLog}
 use Rattle.report.specs.declared.Report.{Report}
 
@@ -62,22 +61,6 @@ claims c t sm root map = do
   s₁ ← claimAreas c t sm (record { map = map; figures = noOverlaps })
   s₂ ← claimObjects c root s₁
   queue c (t .map) (claimQueued c) (mainQueue sm) s₂
-
--- lost blocks of all kinds, after n
-unfoldable pub lostIn : List Lost → ℕ → ℕ
-lostIn [] n = n
-lostIn (l ∷ ls) n = lostIn ls (n + l .count)
-
--- "verdict (1 consistent, 2 inconsistent)"
-abbrev pub consistent : ℕ
-consistent = 1
-
-abbrev pub inconsistent : ℕ
-inconsistent = 2
-
--- "Inconsistent means a lost block, an overlap or a problem."
-unfoldable pub verdictOf : List Lost → ℕ → ℕ → ℕ
-verdictOf lost overlaps problems = pick (eqb (lostIn lost 0 + overlaps + problems) 0) consistent inconsistent
 
 -- "A report holds: .." from the audit's figures, the claims' log and the block map that they left
 unfoldable pub reportOf : Container → List ℕ → Pool → Audit → OverlapLog → List ℕ → Report

@@ -7,7 +7,6 @@ use native.Mathlib.Numerals.{add-one}
 use native.Mathlib.Omega.{arith}
 use lib.Dec.{ltb}
 use borrow.Author.Tests.{lt-ltb, le-ltb}
-use Rattle.fields.specs.Choice.{choose}
 use Rattle.blocks.specs.Reads.{Reads, done, Outcome, given, refused, run, noBlocks, _>>=_, need}
 use Rattle.blocks.proofs.Laws.{then-given, then-refused, need-true, need-false}
 use Rattle.blocks.specs.declared.Address.{Address}
@@ -17,7 +16,7 @@ use Rattle.blocks.specs.declared.Refusal.the-variants.{TooManyNodes}
 use Rattle.nodes.specs.Node.{isLeaf, keyCount, entry, pointer, readNode}
 use Rattle.nodes.specs.Walk.{Walked, childrenFrom, each, walkBelow}
 use Rattle.nodes.specs.declared.Description.{Description}
-use Rattle.trees.specs.Walks.{pointerOf, pointerAt, pointersDown, afterEnter}
+use Rattle.trees.specs.Walks.{pointerOf, pointerAt, pointersDown, childrenOf, alongWay}
 use Rattle.trees.specs.declared.Way.{Way}
 use Rattle.trees.specs.declared.Way.the-variants as way
 use Rattle.trees.proofs.ScanLaws.{bind-assoc}
@@ -94,17 +93,21 @@ module _ {S : Type 0} (f : ℕ → List ℕ) (visit : S → Address → Reads S)
         unfolding walkBelow
         walk-stops r q = need-true f _ _ _ (lt-ltb _ _ h) ∙ then-given f _ _ b e ∙ then-refused f _ _ r q
 
-        module _ (s : S) (q : run f (visit (w .state) (record { 0 = a })) ≡ given s) where
-          visited : run f (walkBelow visit c d (suc levels) a w) ≡ run f (choose (isLeaf b) (λ _. done (record { left = pred (w .left); state = s })) (λ _. childrenFrom d b (keyCount b) 0 [] >>= λ cs. each visit c d (walkBelow visit c d levels) cs (record { left = pred (w .left); state = s })))
-          unfolding walkBelow
-          visited = need-true f _ _ _ (lt-ltb _ _ h) ∙ then-given f _ _ b e ∙ then-given f _ _ s q
+        pub walk-visited : (s : S) → run f (visit (w .state) (record { 0 = a })) ≡ given s → run f (walkBelow visit c d (suc levels) a w) ≡ run f (childrenOf visit c d levels b (record { left = pred (w .left); state = s }))
+        unfolding walkBelow childrenOf
+        walk-visited s q = need-true f _ _ _ (lt-ltb _ _ h) ∙ then-given f _ _ b e ∙ then-given f _ _ s q
 
-          pub walk-leaf : isLeaf b ≡ true → run f (walkBelow visit c d (suc levels) a w) ≡ given (record { left = pred (w .left); state = s })
-          unfolding run
-          walk-leaf l = visited ∙ rw l refl
+  -- which way a node's children go
+  module _ (levels : ℕ) (b : List ℕ) (w : Walked S) where
+    pub way-leaf : isLeaf b ≡ true → run f (childrenOf visit c d levels b w) ≡ alongWay visit c d f levels b way.Leaf w
+    unfolding run childrenOf alongWay
+    way-leaf l = rw l refl
 
-          pub walk-childless : isLeaf b ≡ false → (r : Refusal) → run f (childrenFrom d b (keyCount b) 0 []) ≡ refused r → run f (walkBelow visit c d (suc levels) a w) ≡ refused r
-          walk-childless l r k = visited ∙ rw l (then-refused f _ _ r k)
+    module _ (l : isLeaf b ≡ false) where
+      pub way-refused : (r : Refusal) → run f (childrenFrom d b (keyCount b) 0 []) ≡ refused r → run f (childrenOf visit c d levels b w) ≡ alongWay visit c d f levels b (way.Refused r) w
+      unfolding childrenOf alongWay
+      way-refused r k = rw l (then-refused f _ _ r k)
 
-          pub walk-index : isLeaf b ≡ false → run f (childrenFrom d b (keyCount b) 0 []) ≡ given (pointersDown d b (keyCount b)) → run f (walkBelow visit c d (suc levels) a w) ≡ eachLeft levels b (keyCount b) (record { left = pred (w .left); state = s })
-          walk-index l k = visited ∙ rw l (then-given f _ _ _ k)
+      pub way-index : run f (childrenFrom d b (keyCount b) 0 []) ≡ given (pointersDown d b (keyCount b)) → run f (childrenOf visit c d levels b w) ≡ alongWay visit c d f levels b way.Index w
+      unfolding childrenOf alongWay
+      way-index k = rw l (then-given f _ _ _ k)

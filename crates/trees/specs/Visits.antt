@@ -14,6 +14,7 @@ use Rattle.checkpoint.specs.declared.Mapped.{Mapped}
 use Rattle.block_map.specs.BlockMap.{Marked}
 use Rattle.report.specs.declared.OverlapLog.{OverlapLog}
 use Rattle.pool.specs.Pool.{Pool}
+use Rattle.pool.specs.Place.{poolIn}
 use Rattle.queue.specs.Queue.{nodeBy}
 use Rattle.audit.specs.Audit.{auditQueued}
 use Rattle.audit.specs.declared.Audit.{Audit}
@@ -21,6 +22,7 @@ use Rattle.claims.specs.Claims.{claimMapping, claimQueued}
 use Rattle.trees.specs.declared.Checkpoint.{Checkpoint}
 use Rattle.trees.specs.declared.Figures.{Figures}
 use Rattle.trees.specs.declared.Purpose.{Purpose}
+use Rattle.trees.specs.declared.Tree.{Tree}
 use Rattle.trees.specs.declared.Purpose.the-variants.{PoolQueue, Mappings, MainQueue}
 
 -- the audit's part of what a pass has counted, and the claims'; each leaves the other as it was
@@ -53,6 +55,13 @@ geometryIn k = record { size = k .container .size; count = k .container .count; 
 
 abbrev pub mappedIn : (ℕ → List ℕ) → Checkpoint → ℕ → Mapped
 mappedIn f k id = lookupIn f (geometryIn k) (f (k .superblock)) (record { 0 = id })
+
+-- what a tree's entries are visited for, and how it names a child
+abbrev pub treeVisit : (ℕ → List ℕ) → Tree → Purpose → Marked Figures → Entry → Reads (Marked Figures)
+treeVisit f t = visitFor (t .checkpoint .container) (poolIn f (t .checkpoint .container .size) (t .pool))
+
+abbrev pub treeChild : (ℕ → List ℕ) → Tree → ℕ → Reads (List ℕ)
+treeChild f t = childFor (t .checkpoint .container) (mappedIn f (t .checkpoint)) (t .purpose)
 
 -- the pointer of entry i of an index node, of which left come after it: "entry i + 1 is looked at before child i is read"
 unfoldable pub pointerPast : Description → List ℕ → ℕ → ℕ → Reads ℕ

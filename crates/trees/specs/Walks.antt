@@ -1,11 +1,12 @@
 -- A walk's steps, as the code makes them: children are read again in place, from the last to the first.
 use mathlib.Core.List.{List, [], _∷_}
 use Prim.Native.Nat.{ℕ, zero, suc}
-use Rattle.blocks.specs.Reads.{Reads, Outcome, given, refused, run, noBlocks, _>>=_}
+use Rattle.fields.specs.Choice.{choose}
+use Rattle.blocks.specs.Reads.{Reads, done, Outcome, given, refused, run, noBlocks, _>>=_}
 use Rattle.blocks.specs.declared.Address.{Address}
 use Rattle.blocks.specs.declared.Container.{Container}
-use Rattle.nodes.specs.Node.{entry, pointer, keyCount}
-use Rattle.nodes.specs.Walk.{Walked, each, walkBelow}
+use Rattle.nodes.specs.Node.{entry, pointer, isLeaf, keyCount}
+use Rattle.nodes.specs.Walk.{Walked, childrenFrom, each, walkBelow}
 use Rattle.nodes.specs.declared.Description.{Description}
 use Rattle.trees.specs.declared.Way.{Way}
 use Rattle.trees.specs.declared.Way.the-variants as way
@@ -26,9 +27,15 @@ unfoldable pub pointersDown : Description → List ℕ → ℕ → List ℕ
 pointersDown d b zero = []
 pointersDown d b (suc n) = pointerAt d b n ∷ pointersDown d b n
 
-module _ {S : Type 0} (visit : S → Address → Reads S) (c : Container) (d : Description) (f : ℕ → List ℕ) where
-  -- what is left to do once the node at a is visited and its children's pointers are there
-  unfoldable pub afterEnter : ℕ → ℕ → Way → Walked S → Outcome (Walked S)
-  afterEnter levels a (way.Refused r) w = refused r
-  afterEnter levels a way.Leaf w = given w
-  afterEnter levels a way.Index w = run f (each visit c d (walkBelow visit c d levels) (pointersDown d (f a) (keyCount (f a))) w)
+module _ {S : Type 0} (visit : S → Address → Reads S) (c : Container) (d : Description) where
+  -- what follows once a node is visited, where so many levels may lie below it
+  unfoldable pub childrenOf : ℕ → List ℕ → Walked S → Reads (Walked S)
+  childrenOf levels b w =
+      choose (isLeaf b) (λ _. done w)
+      (λ _. childrenFrom d b (keyCount b) 0 [] >>= λ cs. each visit c d (walkBelow visit c d levels) cs w)
+
+  -- the same, once the way is known
+  unfoldable pub alongWay : (ℕ → List ℕ) → ℕ → List ℕ → Way → Walked S → Outcome (Walked S)
+  alongWay f levels b (way.Refused r) w = refused r
+  alongWay f levels b way.Leaf w = given w
+  alongWay f levels b way.Index w = run f (each visit c d (walkBelow visit c d levels) (pointersDown d b (keyCount b)) w)

@@ -23,7 +23,7 @@ ghost use Rattle.nodes.specs.Walk.{childrenFrom};
 ghost use Rattle.nodes.specs.Answers.{pointerAs};
 ghost use Rattle.queue.specs.Queue.{nodeBy};
 ghost use Rattle.queue.specs.Answers.{childIn};
-ghost use Rattle.trees.specs.Visits.{childFor, mappedIn, pointerPast, oneBelow, childBelow};
+ghost use Rattle.trees.specs.Visits.{childFor, mappedIn, treeChild, pointerPast, oneBelow, childBelow};
 ghost use Rattle.trees.specs.Walks.{pointerOf as pointerIn, pointerAt, pointersDown};
 
 // The child pointer of entry i.
@@ -145,7 +145,7 @@ fn one_below(image: &[u8], size: u64, n: u64, level: u64) -> Child
 // Child i of the n that an index node of a level has.
 pub fn next_child(image: &[u8], t: Tree, node: &[u8], level: u64, i: u64, n: u64) -> Child
     requires { ⌜ i < n ⌝ }
-    ensures { λ r. ⌜ childIn (blockOf (now (image .entry)) (t .checkpoint .container .size)) r ≡ run (blockOf (now (image .entry)) (t .checkpoint .container .size)) (childBelow (t .description) (childFor (t .checkpoint .container) (mappedIn (blockOf (now (image .entry)) (t .checkpoint .container .size)) (t .checkpoint)) (t .purpose)) level (now (node .entry)) (n - (i + 1)) i) ⌝ }
+    ensures { λ r. ⌜ childIn (blockOf (now (image .entry)) (t .checkpoint .container .size)) r ≡ run (blockOf (now (image .entry)) (t .checkpoint .container .size)) (childBelow (t .description) (treeChild (blockOf (now (image .entry)) (t .checkpoint .container .size)) t) level (now (node .entry)) (n - (i + 1)) i) ⌝ }
 {
     let d = t.description;
     let k = t.checkpoint;

@@ -8,6 +8,8 @@ use report::OverlapLog;
 use report::Step;
 
 pub mod children;
+pub mod scans;
+pub mod walks;
 
 // What the entries of a scanned tree are for.
 pub enum Purpose {

@@ -1,0 +1,190 @@
+// A scan visits a tree's entries from first to last.
+use crate::Figures;
+use crate::Purpose;
+use crate::Tree;
+use crate::Visited;
+use crate::children::next_child;
+use blocks::Refusal;
+use nodes::Located;
+use nodes::Places;
+use queue::Child;
+use report::Step;
+ghost use mathlib.Core.Path.{_≡_};
+ghost use Prim.Native.Nat.{ℕ};
+ghost use Rattle.blocks.specs.Blocks.{blockOf};
+ghost use Rattle.nodes.specs.Node.{keyCount};
+ghost use Rattle.nodes.specs.Scan.{leafFrom, scanNode, below, scan as scanOf};
+ghost use Rattle.queue.specs.Answers.{placesIn};
+ghost use Rattle.trees.specs.Visits.{treeVisit, treeChild};
+ghost use Rattle.trees.specs.declared.Purpose.the-variants.{PoolQueue, Mappings, MainQueue};
+ghost use Rattle.trees.specs.Answers.{Visits, figured};
+
+fn refused(r: Refusal, figures: Figures) -> Visited
+    ensures { λ v. ⌜ v ≡ record { step = Step.Refused r; figures = figures } ⌝ }
+{
+    let step = Step::Refused(r);
+    Visited { step, figures }
+}
+
+fn done(figures: Figures) -> Visited
+    ensures { λ v. ⌜ v ≡ record { step = Step.Done; figures = figures } ⌝ }
+{
+    let step = Step::Done;
+    Visited { step, figures }
+}
+
+// An entry of the pool queue is audited; the claims' log is left as it is.
+fn audit_entry(
+    image: &[u8],
+    map: &mut [u8],
+    t: Tree,
+    node: &[u8],
+    e: Places,
+    figures: Figures,
+) -> Visited
+    ensures { λ r. ⌜ Visits (now (image .entry)) (t .checkpoint) r (now (map .entry)) (now (map .exit)) (treeVisit (blockOf (now (image .entry)) (t .checkpoint .container .size)) t PoolQueue (figured (now (map .entry)) figures) (placesIn (now (node .entry)) e)) ⌝ }
+{
+    let k = t.checkpoint;
+    let container = k.container;
+    let place = t.pool;
+    let audit = figures.audit;
+    let overlaps = figures.overlaps;
+    let audited = audit::queued::audit_queued(image, map, node, container, place, e, audit);
+    let step = audited.step;
+    let audit = audited.audit;
+    let figures = Figures { audit, overlaps };
+    Visited { step, figures }
+}
+
+// A mapping is claimed, and so are the blocks of an entry of the main queue; the audit's figures are left as they are.
+fn claim_entry(
+    image: &[u8],
+    map: &mut [u8],
+    t: Tree,
+    node: &[u8],
+    e: Places,
+    figures: Figures,
+) -> Visited
+    ensures { λ r. ⌜ Visits (now (image .entry)) (t .checkpoint) r (now (map .entry)) (now (map .exit)) (treeVisit (blockOf (now (image .entry)) (t .checkpoint .container .size)) t MainQueue (figured (now (map .entry)) figures) (placesIn (now (node .entry)) e)) ⌝ }
+{
+    let k = t.checkpoint;
+    let container = k.container;
+    let audit = figures.audit;
+    let overlaps = figures.overlaps;
+    let claimed = claims::claim_queued(map, node, container, e, overlaps);
+    let step = claimed.step;
+    let overlaps = claimed.log;
+    let figures = Figures { audit, overlaps };
+    Visited { step, figures }
+}
+
+fn claim_mapping(
+    image: &[u8],
+    map: &mut [u8],
+    t: Tree,
+    node: &[u8],
+    e: Places,
+    figures: Figures,
+) -> Visited
+    ensures { λ r. ⌜ Visits (now (image .entry)) (t .checkpoint) r (now (map .entry)) (now (map .exit)) (treeVisit (blockOf (now (image .entry)) (t .checkpoint .container .size)) t Mappings (figured (now (map .entry)) figures) (placesIn (now (node .entry)) e)) ⌝ }
+{
+    let k = t.checkpoint;
+    let container = k.container;
+    let audit = figures.audit;
+    let overlaps = figures.overlaps;
+    let claimed = claims::claim_mapping(map, node, container, e, overlaps);
+    let step = claimed.step;
+    let overlaps = claimed.log;
+    let figures = Figures { audit, overlaps };
+    Visited { step, figures }
+}
+
+// What the entry is for.
+fn visit(
+    image: &[u8],
+    map: &mut [u8],
+    t: Tree,
+    node: &[u8],
+    e: Places,
+    figures: Figures,
+) -> Visited
+    ensures { λ r. ⌜ Visits (now (image .entry)) (t .checkpoint) r (now (map .entry)) (now (map .exit)) (treeVisit (blockOf (now (image .entry)) (t .checkpoint .container .size)) t (t .purpose) (figured (now (map .entry)) figures) (placesIn (now (node .entry)) e)) ⌝ }
+{
+    let purpose = t.purpose;
+    match purpose {
+        Purpose::PoolQueue => audit_entry(image, map, t, node, e, figures),
+        Purpose::Mappings => claim_mapping(image, map, t, node, e, figures),
+        Purpose::MainQueue => claim_entry(image, map, t, node, e, figures),
+    }
+}
+
+// The entries of a leaf.
+fn scan_leaf(image: &[u8], map: &mut [u8], t: Tree, node: &[u8], figures: Figures) -> Visited
+    ensures { λ r. ⌜ Visits (now (image .entry)) (t .checkpoint) r (now (map .entry)) (now (map .exit)) (leafFrom (treeVisit (blockOf (now (image .entry)) (t .checkpoint .container .size)) t (t .purpose)) (t .description) (treeChild (blockOf (now (image .entry)) (t .checkpoint .container .size)) t) (now (node .entry)) (keyCount (now (node .entry))) 0 (figured (now (map .entry)) figures)) ⌝ }
+{
+    let d = t.description;
+    let n = nodes::node::key_count(node);
+    let mut found = figures;
+    let mut i = 0;
+    while i < n {
+        let located = nodes::entries::entry(node, d, i);
+        match located {
+            Located::Refused(r) => return refused(r, found),
+            Located::At(e) => {
+                let visited = visit(image, map, t, node, e, found);
+                let step = visited.step;
+                match step {
+                    Step::Refused(_) => return visited,
+                    Step::Done => {
+                        found = visited.figures;
+                        i += 1;
+                    }
+                }
+            }
+        }
+    }
+    done(found)
+}
+
+// All entries below the node in block at, of a level: the scan calls itself on each child, one level below.
+fn scan_node(image: &[u8], map: &mut [u8], t: Tree, at: u64, level: u64, figures: Figures) -> Visited
+    ensures { λ r. ⌜ Visits (now (image .entry)) (t .checkpoint) r (now (map .entry)) (now (map .exit)) (scanNode (treeVisit (blockOf (now (image .entry)) (t .checkpoint .container .size)) t (t .purpose)) (t .description) (treeChild (blockOf (now (image .entry)) (t .checkpoint .container .size)) t) (below (treeVisit (blockOf (now (image .entry)) (t .checkpoint .container .size)) t (t .purpose)) (t .description) (treeChild (blockOf (now (image .entry)) (t .checkpoint .container .size)) t) level) (blockOf (now (image .entry)) (t .checkpoint .container .size) at) (figured (now (map .entry)) figures)) ⌝ }
+{
+    let k = t.checkpoint;
+    let container = k.container;
+    let node = blocks::block(image, container.size, at);
+    if nodes::node::is_leaf(node) {
+        return scan_leaf(image, map, t, node, figures);
+    }
+    let n = nodes::node::key_count(node);
+    let mut found = figures;
+    let mut i = 0;
+    while i < n {
+        let child = next_child(image, t, node, level, i, n);
+        match child {
+            Child::Refused(r) => return refused(r, found),
+            Child::At(c) => {
+                let visited = scan_node(image, map, t, c, level - 1, found);
+                let step = visited.step;
+                match step {
+                    Step::Refused(_) => return visited,
+                    Step::Done => {
+                        found = visited.figures;
+                        i += 1;
+                    }
+                }
+            }
+        }
+    }
+    done(found)
+}
+
+// All entries of the tree whose root is in block at.
+pub fn scan(image: &[u8], map: &mut [u8], t: Tree, at: u64, figures: Figures) -> Visited
+    ensures { λ r. ⌜ Visits (now (image .entry)) (t .checkpoint) r (now (map .entry)) (now (map .exit)) (scanOf (treeVisit (blockOf (now (image .entry)) (t .checkpoint .container .size)) t (t .purpose)) (t .description) (treeChild (blockOf (now (image .entry)) (t .checkpoint .container .size)) t) (blockOf (now (image .entry)) (t .checkpoint .container .size) at) (figured (now (map .entry)) figures)) ⌝ }
+{
+    let k = t.checkpoint;
+    let container = k.container;
+    let level = nodes::node::level(blocks::block(image, container.size, at));
+    scan_node(image, map, t, at, level, figures)
+}
