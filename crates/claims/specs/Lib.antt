@@ -1,2 +1,3 @@
--- The claims on blocks.
+-- The claims on blocks, and what the code's answers stand for.
 pub mod Claims
+pub mod Answers

@@ -1,0 +1,43 @@
+use Rattle.claims.proofs.Laws.{untouched, claimed-as}
+use Rattle.claims.specs.Claims.{claimQueued}
+use Rattle.queue.specs.Answers.{ranAs}
+use Rattle.blocks.proofs.Laws.{then-given, then-refused}
+use mathlib.Core.Path.{sym, ap, _∙_}
+use borrow.Author.Needs.{needs}
+use Rattle.claims.proofs.claim_queued.Statement.{statement}
+use Rattle.claims.proofs.claim_queued.Tie as tie
+
+run-of-requires : tie.Need-run-of-requires
+run-of-requires c κs = search needs
+
+enum-known-ran : tie.Need-enum-known-ran
+enum-known-ran c = search needs
+
+enum-known-ran-2 : tie.Need-enum-known-ran-2
+enum-known-ran-2 c = search needs
+
+claim-requires : tie.Need-claim-requires
+claim-requires c κs = search needs
+
+returns : tie.Need-returns
+unfolding claimQueued
+returns c = untouched _ _ _ _ (λ f. then-refused f _ _ _ (sym (c .before .before .before .run-of .ensures f) ∙ ap ranAs (c .before .ran .given .1)))
+
+same-length : tie.Need-same-length
+same-length c = search needs
+
+returns-2 : tie.Need-returns-2
+unfolding claimQueued
+returns-2 c = claimed-as _ _ _ _ _ _ (c .before .before .claim .ensures) (λ f. then-given f _ _ _ (sym (c .before .before .before .before .before .before .before .run-of .ensures f) ∙ ap ranAs (c .before .before .before .before .before .ran2 .given .1)))
+
+pub claim-queued-spec : {M : Type 1} → statement M
+claim-queued-spec =
+    tie.close
+    (tie.spec
+    run-of-requires
+    enum-known-ran
+    enum-known-ran-2
+    claim-requires
+    returns
+    same-length
+    returns-2)
