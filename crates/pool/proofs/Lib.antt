@@ -1,2 +1,3 @@
 -- Laws of the pool's bitmap in place.
 pub mod Laws
+pub mod LoadLaws

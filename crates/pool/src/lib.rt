@@ -1,16 +1,31 @@
 // The internal pool: the blocks that the manager keeps for its own, and their bitmap, read where it stands.
 use blocks::Container;
+use blocks::Refusal;
+use blocks::Seen;
 use manager::Manager;
 ghost use mathlib.Core.Path.{_≡_};
-ghost use Prim.Native.Nat.{_+_};
+ghost use Prim.Native.Nat.{_+_, _*_, _<_, _≤_};
+ghost use lib.Dec.{leb};
 ghost use lib.ListN.{getD};
 ghost use Rattle.fields.specs.Fields.{bitAt};
-ghost use Rattle.blocks.specs.Blocks.{blockOf};
-ghost use Rattle.pool.specs.Pool.{poolIndex, poolMarked};
+ghost use Rattle.blocks.specs.Reads.{run};
+ghost use Rattle.blocks.specs.Blocks.{blockOf, Holds};
+ghost use Rattle.block_map.specs.BlockMap.{usedAt};
+ghost use Rattle.manager.specs.Manager.{poolBitmaps};
+ghost use Rattle.manager.specs.Place.{placed, bytesOf};
+ghost use Rattle.pool.specs.Pool.{loadPool, poolIndex, poolMarked, unusedFrom};
 ghost use Rattle.pool.specs.Place.{bitmapIn, poolIn};
+ghost use Rattle.pool.specs.Unused.{unusedOne};
+ghost use Rattle.pool.specs.Load.{placeIn, places, BitmapSeen, BitmapsSeen, poolFrom, pooledIn};
 
-// Where the manager counts the blocks of the pool's bitmap.
+// Fields of the manager: the pool's length, the blocks of its bitmap, their ring, and the pool's first block.
+const BLOCKS: u64 = 152;
+
 const BITMAPS: u64 = 160;
+
+const RING: u64 = 168;
+
+const BASE: u64 = 176;
 
 // Where the pool lies, and through what its bitmap is found: the manager, and the ring of its bitmap blocks.
 pub struct PoolPlace {
@@ -18,6 +33,11 @@ pub struct PoolPlace {
     pub base: u64,
     pub blocks: u64,
     pub ring: u64,
+}
+
+pub enum Pooled {
+    At(PoolPlace),
+    Refused(Refusal),
 }
 
 // The place of block a in the pool: blocks below its base wrap, and fall outside.
@@ -78,4 +98,126 @@ pub fn pool_marked(image: &[u8], container: Container, p: PoolPlace, a: u64) -> 
     } else {
         false
     }
+}
+
+// Where the manager's fields put the pool.
+fn pool_place(image: &[u8], container: Container, m: Manager) -> PoolPlace
+    ensures { λ r. ⌜ r ≡ placeIn (bytesOf (now (image .entry)) (container .size) m) m ⌝ }
+{
+    PoolPlace {
+        manager: m,
+        base: manager::place::u64_of(image, container, m, BASE),
+        blocks: manager::place::u64_of(image, container, m, BLOCKS),
+        ring: manager::place::u64_of(image, container, m, RING),
+    }
+}
+
+// Whether block i of the bitmap may be read.
+fn bitmap_there(image: &[u8], container: Container, p: PoolPlace, i: u64) -> Seen
+    ensures { λ r. ⌜ BitmapSeen (blockOf (now (image .entry)) (container .size)) container p i r ⌝ }
+{
+    let m = p.manager;
+    let k = manager::lists::pool_index(image, container, m, i);
+    if u64::MAX - p.ring < k {
+        return Seen::Refused(Refusal::Overflow);
+    }
+    if container.count <= p.ring + k {
+        return Seen::Refused(Refusal::PastContainer);
+    }
+    Seen::There
+}
+
+// Whether the first n blocks of the bitmap may be read: no byte of them is looked at.
+fn bitmaps_there(image: &[u8], container: Container, p: PoolPlace, n: u64) -> Seen
+    ensures { λ r. ⌜ BitmapsSeen (blockOf (now (image .entry)) (container .size)) container p n r ⌝ }
+{
+    let mut i = 0;
+    while i < n {
+        let seen = bitmap_there(image, container, p, i);
+        match seen {
+            Seen::Refused(r) => return Seen::Refused(r),
+            Seen::There => i += 1,
+        }
+    }
+    Seen::There
+}
+
+// Whether n blocks have a bit for each of a pool's blocks: by division, since the product may pass 2^64.
+fn has_bits(size: u64, n: u64, blocks: u64) -> bool
+    requires { ⌜ 0 < size ⌝ }
+    ensures { λ r. ⌜ r ≡ leb blocks (n * size * 8) ⌝ }
+{
+    if blocks == 0 {
+        return true;
+    }
+    (blocks - 1) / 8 / size < n
+}
+
+// The pool, once the list of its bitmap's blocks is known to be whole.
+fn load_at(image: &[u8], container: Container, p: PoolPlace) -> Pooled
+    requires { ⌜ Holds (now image) container ⌝ }
+    ensures { λ r. ⌜ pooledIn (blockOf (now (image .entry)) (container .size)) (container .size) r ≡ run (blockOf (now (image .entry)) (container .size)) (poolFrom container p (places (blockOf (now (image .entry)) (container .size)) (container .size) p (poolBitmaps (bytesOf (now (image .entry)) (container .size) (p .manager))))) ⌝ }
+{
+    let m = p.manager;
+    let n = manager::place::u32_of(image, container, m, BITMAPS);
+    let seen = bitmaps_there(image, container, p, n);
+    match seen {
+        Seen::Refused(r) => Pooled::Refused(r),
+        Seen::There => {
+            if has_bits(container.size, n, p.blocks) {
+                Pooled::At(p)
+            } else {
+                Pooled::Refused(Refusal::BadBitmap)
+            }
+        }
+    }
+}
+
+// The pool's place, or the first refusal.
+pub fn load_pool(image: &[u8], container: Container, m: Manager) -> Pooled
+    requires { ⌜ Holds (now image) container ⌝ }
+    ensures { λ r. ⌜ pooledIn (blockOf (now (image .entry)) (container .size)) (container .size) r ≡ run (blockOf (now (image .entry)) (container .size)) (loadPool container (placed (blockOf (now (image .entry)) (container .size)) (container .size) m)) ⌝ }
+{
+    let seen = manager::lists::pool_indices(image, container, m);
+    match seen {
+        Seen::Refused(r) => Pooled::Refused(r),
+        Seen::There => load_at(image, container, pool_place(image, container, m)),
+    }
+}
+
+// Whether the pool's block i is used; a block number past 2^64 is past every count.
+fn used_in(map: &[u8], container: Container, base: u64, i: u64) -> bool
+    ensures { λ r. ⌜ r ≡ usedAt container (now (map .entry)) (base + i) ⌝ }
+{
+    if u64::MAX - base < i {
+        return false;
+    }
+    block_map::used_at(map, container, base + i)
+}
+
+// 1 where the pool's block i is marked but unused.
+fn unused_one(image: &[u8], map: &[u8], container: Container, p: PoolPlace, i: u64) -> u64
+    requires { ⌜ i < p .blocks ⌝ }
+    ensures { λ r. ⌜ (r ≡ unusedOne container (poolIn (blockOf (now (image .entry)) (container .size)) (container .size) p) (now (map .entry)) (p .base + i)) × (r ≤ 1) ⌝ }
+{
+    if !bit_in(image, container, p, i) {
+        return 0;
+    }
+    if used_in(map, container, p.base, i) {
+        return 0;
+    }
+    1
+}
+
+// How many pool blocks are marked but unused.
+pub fn unused(image: &[u8], map: &[u8], container: Container, p: PoolPlace) -> u64
+    ensures { λ r. ⌜ r ≡ unusedFrom container (poolIn (blockOf (now (image .entry)) (container .size)) (container .size) p) (now (map .entry)) (p .blocks) (p .base) 0 ⌝ }
+{
+    let mut n = 0;
+    let mut i = 0;
+    while i < p.blocks {
+        n += unused_one(image, map, container, p, i);
+        i += 1;
+    }
+    n
 }
