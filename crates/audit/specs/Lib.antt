@@ -1,2 +1,3 @@
--- The audit of bitmaps and of the pool.
+-- The audit of bitmaps and of the pool, and what the code's answers stand for.
 pub mod Audit
+pub mod Answers

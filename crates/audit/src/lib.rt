@@ -1,9 +1,21 @@
 // The audit of the bitmaps, and of what the pool is used for.
 use report::ProblemLog;
+use report::Step;
+
+mod bitmap;
+pub mod chunks;
+mod problems;
+pub mod queued;
 
 // What the audit of the bitmaps has counted.
 pub struct Audit {
     pub problems: ProblemLog,
     pub free: u64,
     pub wrong: u64,
+}
+
+// What was counted after a step; where the step was refused, it says nothing.
+pub struct Audited {
+    pub step: Step,
+    pub audit: Audit,
 }
