@@ -73,7 +73,8 @@ module _ (f : ℕ → List ℕ) (c : Container) (p : PoolPlace) (n i : ℕ) wher
     unfolding joined values
     left-more q =
         let first = (rw q at goes) (values 2 sm (n - (i + 1)) (poolIndicesAt sm + 2 * i + 2)) (joined f (c .size) p i) in
-        let rest = sym first ∙ (rw more at left) in rw (add-one i) (rw (← add-one i) (rw (← onwards) rest))
+        let grown : joined f (c .size) p (i + 1) ≡ joined f (c .size) p i ++ bitmapBlock f (c .size) p i = rw add-one refl in
+        rw (grown, ← onwards) (sym first ∙ (rw more at left))
 
     pub left-refused : (r : Refusal) → s ≡ Refused r → BitmapsSeen f c p n (Refused r)
     unfolding values
