@@ -2,6 +2,7 @@
 use mathlib.Core.List.{List}
 use mathlib.Core.Path.{_≡_, refl, sym, ap, _∙_}
 use Prim.Native.Nat.{ℕ, suc, _+_, _-_, _*_, _≤_, _<_}
+use native.Mathlib.Nat.{sub-zero, add-zero}
 use native.Mathlib.Omega.{arith}
 use borrow.Author.Tests.{eq-eqb, ne-eqb}
 use Rattle.fields.specs.Fields.{num}
@@ -49,6 +50,9 @@ module _ (c : Container) (p : Pool) (b : List ℕ) (n i : ℕ) (s : Marked Audit
       at : chunksAt + chunkLength * i + chunkLength ≡ chunksAt + chunkLength * (i + 1)
       at = omega arith
 
+pub chunks-first : (c : Container) (p : Pool) (b : List ℕ) (n : ℕ) (s : Marked Audit) → n ≡ chunkCount b → auditChunks c p (records b (n - 0) (chunksAt + chunkLength * 0)) s ≡ auditChunks c p (records b (chunkCount b) chunksAt) s
+chunks-first c p b n s e = rw (sub-zero, e) refl
+
 -- the blocks of a list of addresses from i on, of n
 module _ (c : Container) (p : Pool) (sm : List ℕ) (off n i : ℕ) (s : Marked Audit) where
   pub infos-done : n ≤ i → auditInfos c p (values 8 sm (n - i) (off + 8 * i)) s ≡ done s
@@ -62,6 +66,9 @@ module _ (c : Container) (p : Pool) (sm : List ℕ) (off n i : ℕ) (s : Marked 
     where
       at : off + 8 * i + 8 ≡ off + 8 * (i + 1)
       at = omega arith
+
+pub infos-first : (c : Container) (p : Pool) (sm : List ℕ) (off n m : ℕ) (s : Marked Audit) → n ≡ m → auditInfos c p (values 8 sm (n - 0) (off + 8 * 0)) s ≡ auditInfos c p (values 8 sm m off) s
+infos-first c p sm off n m s e = rw (sub-zero, e, add-zero) refl
 
 -- a chunk-info block whose records are there
 pub info-there : {f : ℕ → List ℕ} {count : ℕ} {step : Step} {between after : List ℕ} {figures : Audit} (c : Container) (p : Pool) (a : ℕ) (map : List ℕ) (audit : Audit) (b : List ℕ)

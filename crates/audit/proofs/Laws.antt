@@ -37,6 +37,9 @@ module _ {F : Type 0} {f : ℕ → List ℕ} {count : ℕ} {step : Step} {before
   pub stepped-refused : (r : Refusal) → step ≡ Refused r → run f p ≡ refused r
   stepped-refused r e = sym (h .goes) ∙ ap (λ (s : Step). outcomeOf s (record { map = after; figures = figures })) e
 
+  pub stepped-is : {q : Reads (Marked F)} → p ≡ q → Stepped f count step before after figures q
+  stepped-is e = record { goes = h .goes ∙ ap (run f) e; kept = h .kept }
+
   -- a step, and then another; a refusal ends the whole
   module _ {G : Type 0} (g : Marked F → Reads (Marked G)) where
     pub step-then : {next : Step} {last : List ℕ} {found : G} → step ≡ Done → Stepped f count next after last found (g (record { map = after; figures = figures })) → Stepped f count next before last found (p >>= g)
