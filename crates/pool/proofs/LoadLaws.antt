@@ -17,10 +17,11 @@ use Rattle.blocks.specs.declared.Address.{Address}
 use Rattle.blocks.specs.declared.Container.{Container}
 use Rattle.blocks.specs.declared.Refusal.{Refusal}
 use Rattle.blocks.specs.declared.Refusal.the-variants.{PastContainer, BadBitmap, Overflow}
+use Rattle.blocks.specs.Answers.{seenAs}
 use Rattle.blocks.specs.declared.Seen.{Seen}
 use Rattle.blocks.specs.declared.Seen.the-variants.{There, Refused}
 use Rattle.blocks.proofs.Laws.{then-given, then-refused, need-true, need-false, need-held, both, block-length}
-use Rattle.manager.specs.Manager.{poolBase, poolBlocks, poolRingBase, poolIndicesAt, poolIndices}
+use Rattle.manager.specs.Manager.{poolBase, poolBlocks, poolRingBase, poolIndicesAt}
 use Rattle.manager.specs.Place.{placed}
 use Rattle.manager.specs.Lists.{values, IndicesSeen}
 use Rattle.manager.specs.declared.Manager.{Manager}
@@ -200,17 +201,7 @@ module _ (f : ℕ → List ℕ) (c : Container) (m : Manager) (s : Seen) (seen :
   unfolding loadPool
   load-refused r q = sym (then-refused f _ _ r (sym (rw q at (seen f))))
 
-  pub load-there : s ≡ There → (p : PoolPlace) → p ≡ placeIn (placed f (c .size) m) m → (o : Outcome Pool) → PoolRead f c p o
-      → o ≡ run f (loadPool c (placed f (c .size) m))
+  pub load-there : s ≡ There → (p : PoolPlace) → p ≡ placeIn (placed f (c .size) m) m → (r : Seen) → PoolRead f c p (seenAs (poolIn f (c .size) p) r)
+      → seenAs (poolIn f (c .size) (placeIn (placed f (c .size) m) m)) r ≡ run f (loadPool c (placed f (c .size) m))
   unfolding loadPool poolFrom
-  load-there q p e o a = (rw e at a) ∙ sym (then-given f _ _ _ (sym (rw q at (seen f))))
-
--- what a caller knows of the pool's place
-pub pool-fields : (f : ℕ → List ℕ) (c : Container) (sm : List ℕ) (p : PoolPlace) → given (poolIn f (c .size) p) ≡ run f (loadPool c sm) → (p .base ≡ poolBase sm) × (p .blocks ≡ poolBlocks sm)
-unfolding run loadPool
-pool-fields f c sm p e =
-    let read = both f (poolIndices sm) _ _ (sym e) in
-    let joins = both f (bitmapsFrom c (poolRingBase sm) (read .first) []) _ _ (read .rest) in
-    let same : given (record { base = poolBase sm; blocks = poolBlocks sm; bits = joins .first }) ≡ given (poolIn f (c .size) p) = need-held f _ _ _ _ (joins .rest) .1 in
-    let pools : poolIn f (c .size) p ≡ record { base = poolBase sm; blocks = poolBlocks sm; bits = joins .first } = cc in
-    (ap (λ (q : Pool). q .base) pools, ap (λ (q : Pool). q .blocks) pools)
+  load-there q p e r a = (rw e at a) ∙ sym (then-given f _ _ _ (sym (rw q at (seen f))))

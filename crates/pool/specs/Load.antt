@@ -1,10 +1,10 @@
--- The loader's steps, each as one function of the code makes it, and the outcome that its answer stands for.
+-- The loader's steps, each as one function of the code makes it.
 use mathlib.Core.Path.{_≡_}
 use mathlib.Core.List.{List, [], _∷_, _++_}
 use Prim.Native.Nat.{ℕ, zero, suc, _*_}
 use lib.Dec.{leb}
 use lib.ListN.{length}
-use Rattle.blocks.specs.Reads.{Reads, done, Outcome, given, refused, run, _>>=_, need}
+use Rattle.blocks.specs.Reads.{Reads, done, run, _>>=_, need}
 use Rattle.blocks.specs.Answers.{seenAs}
 use Rattle.blocks.specs.declared.Container.{Container}
 use Rattle.blocks.specs.declared.Refusal.the-variants.{BadBitmap}
@@ -15,10 +15,8 @@ use Rattle.manager.specs.Lists.{values}
 use Rattle.manager.specs.Load.{onward}
 use Rattle.manager.specs.declared.Manager.{Manager}
 use Rattle.pool.specs.Pool.{Pool, bitmapsFrom}
-use Rattle.pool.specs.Place.{ringPlace, bitmapBlock, poolIn}
+use Rattle.pool.specs.Place.{ringPlace, bitmapBlock}
 use Rattle.pool.specs.declared.PoolPlace.{PoolPlace}
-use Rattle.pool.specs.declared.Pooled.{Pooled}
-use Rattle.pool.specs.declared.Pooled.the-variants.{At, Refused}
 
 -- where a manager's fields put the pool
 abbrev pub placeIn : List ℕ → Manager → PoolPlace
@@ -50,7 +48,3 @@ poolFrom c p is = do
   bits ← bitmapsFrom c (p .ring) is []
   _ ← need (leb (p .blocks) (length bits * 8)) BadBitmap
   done (record { base = p .base; blocks = p .blocks; bits = bits })
-
-abbrev pub pooledIn : (ℕ → List ℕ) → ℕ → Pooled → Outcome Pool
-pooledIn f size (At p) = given (poolIn f size p)
-pooledIn f size (Refused r) = refused r

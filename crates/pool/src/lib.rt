@@ -10,13 +10,14 @@ ghost use lib.ListN.{getD};
 ghost use Rattle.fields.specs.Fields.{bitAt};
 ghost use Rattle.blocks.specs.Reads.{run};
 ghost use Rattle.blocks.specs.Blocks.{blockOf, Holds};
+ghost use Rattle.blocks.specs.Answers.{seenAs};
 ghost use Rattle.block_map.specs.BlockMap.{usedAt};
 ghost use Rattle.manager.specs.Manager.{poolBitmaps};
 ghost use Rattle.manager.specs.Place.{placed, bytesOf};
 ghost use Rattle.pool.specs.Pool.{loadPool, poolIndex, poolMarked, unusedFrom};
 ghost use Rattle.pool.specs.Place.{bitmapIn, poolIn};
 ghost use Rattle.pool.specs.Unused.{unusedOne};
-ghost use Rattle.pool.specs.Load.{placeIn, places, BitmapSeen, BitmapsSeen, poolFrom, pooledIn};
+ghost use Rattle.pool.specs.Load.{placeIn, places, BitmapSeen, BitmapsSeen, poolFrom};
 
 // Fields of the manager: the pool's length, the blocks of its bitmap, their ring, and the pool's first block.
 const BLOCKS: u64 = 152;
@@ -33,11 +34,6 @@ pub struct PoolPlace {
     pub base: u64,
     pub blocks: u64,
     pub ring: u64,
-}
-
-pub enum Pooled {
-    At(PoolPlace),
-    Refused(Refusal),
 }
 
 // The place of block a in the pool: blocks below its base wrap, and fall outside.
@@ -101,7 +97,7 @@ pub fn pool_marked(image: &[u8], container: Container, p: PoolPlace, a: u64) -> 
 }
 
 // Where the manager's fields put the pool.
-fn pool_place(image: &[u8], container: Container, m: Manager) -> PoolPlace
+pub fn pool_place(image: &[u8], container: Container, m: Manager) -> PoolPlace
     ensures { λ r. ⌜ r ≡ placeIn (bytesOf (now (image .entry)) (container .size) m) m ⌝ }
 {
     PoolPlace {
@@ -154,33 +150,33 @@ fn has_bits(size: u64, n: u64, blocks: u64) -> bool
 }
 
 // The pool, once the list of its bitmap's blocks is known to be whole.
-fn load_at(image: &[u8], container: Container, p: PoolPlace) -> Pooled
+fn load_at(image: &[u8], container: Container, p: PoolPlace) -> Seen
     requires { ⌜ Holds (now image) container ⌝ }
-    ensures { λ r. ⌜ pooledIn (blockOf (now (image .entry)) (container .size)) (container .size) r ≡ run (blockOf (now (image .entry)) (container .size)) (poolFrom container p (places (blockOf (now (image .entry)) (container .size)) (container .size) p (poolBitmaps (bytesOf (now (image .entry)) (container .size) (p .manager))))) ⌝ }
+    ensures { λ r. ⌜ seenAs (poolIn (blockOf (now (image .entry)) (container .size)) (container .size) p) r ≡ run (blockOf (now (image .entry)) (container .size)) (poolFrom container p (places (blockOf (now (image .entry)) (container .size)) (container .size) p (poolBitmaps (bytesOf (now (image .entry)) (container .size) (p .manager))))) ⌝ }
 {
     let m = p.manager;
     let n = manager::place::u32_of(image, container, m, BITMAPS);
     let seen = bitmaps_there(image, container, p, n);
     match seen {
-        Seen::Refused(r) => Pooled::Refused(r),
+        Seen::Refused(r) => Seen::Refused(r),
         Seen::There => {
             if has_bits(container.size, n, p.blocks) {
-                Pooled::At(p)
+                Seen::There
             } else {
-                Pooled::Refused(Refusal::BadBitmap)
+                Seen::Refused(Refusal::BadBitmap)
             }
         }
     }
 }
 
-// The pool's place, or the first refusal.
-pub fn load_pool(image: &[u8], container: Container, m: Manager) -> Pooled
+// Whether the pool at its manager's place may be used.
+pub fn load_pool(image: &[u8], container: Container, m: Manager) -> Seen
     requires { ⌜ Holds (now image) container ⌝ }
-    ensures { λ r. ⌜ pooledIn (blockOf (now (image .entry)) (container .size)) (container .size) r ≡ run (blockOf (now (image .entry)) (container .size)) (loadPool container (placed (blockOf (now (image .entry)) (container .size)) (container .size) m)) ⌝ }
+    ensures { λ r. ⌜ seenAs (poolIn (blockOf (now (image .entry)) (container .size)) (container .size) (placeIn (bytesOf (now (image .entry)) (container .size) m) m)) r ≡ run (blockOf (now (image .entry)) (container .size)) (loadPool container (placed (blockOf (now (image .entry)) (container .size)) (container .size) m)) ⌝ }
 {
     let seen = manager::lists::pool_indices(image, container, m);
     match seen {
-        Seen::Refused(r) => Pooled::Refused(r),
+        Seen::Refused(r) => Seen::Refused(r),
         Seen::There => load_at(image, container, pool_place(image, container, m)),
     }
 }

@@ -4,17 +4,20 @@ use Prim.Native.Nat.{ℕ, _+_}
 use lib.Dec.{eqb}
 use Rattle.blocks.specs.Reads.{Reads, done, _>>=_, need}
 use Rattle.blocks.specs.declared.Container.{Container}
+use Rattle.blocks.specs.declared.ObjectId.{ObjectId}
 use Rattle.blocks.specs.declared.Refusal.the-variants.{WrongLevel}
-use Rattle.nodes.specs.Node.{Entry, readNode, entry, pointer, levelOf}
-use Rattle.nodes.specs.Scan.{lookAt}
+use Rattle.nodes.specs.Node.{Entry, readNode, describe, entry, pointer, levelOf}
+use Rattle.nodes.specs.Scan.{lookAt, scan}
 use Rattle.nodes.specs.declared.Description.{Description}
 use Rattle.checkpoint.specs.InPlace.{lookupIn}
 use Rattle.checkpoint.specs.declared.Geometry.{Geometry}
 use Rattle.checkpoint.specs.declared.Mapped.{Mapped}
+use Rattle.checkpoint.specs.declared.Mapped.the-variants.{To, Nowhere}
 use Rattle.block_map.specs.BlockMap.{Marked}
 use Rattle.report.specs.declared.OverlapLog.{OverlapLog}
 use Rattle.pool.specs.Pool.{Pool}
 use Rattle.pool.specs.Place.{poolIn}
+use Rattle.pool.specs.declared.PoolPlace.{PoolPlace}
 use Rattle.queue.specs.Queue.{nodeBy}
 use Rattle.audit.specs.Audit.{auditQueued}
 use Rattle.audit.specs.declared.Audit.{Audit}
@@ -80,3 +83,17 @@ childBelow d child level b left i = do
   a ← pointerPast d b left i
   n ← child a
   oneBelow level n
+
+-- a tree whose root was read, by its own description
+unfoldable pub scanRoot : (ℕ → List ℕ) → Checkpoint → PoolPlace → Purpose → List ℕ → Marked Figures → Reads (Marked Figures)
+scanRoot f k place purpose b s = do
+  d ← describe b
+  scan (visitFor (k .container) (poolIn f (k .container .size) place) purpose) d (childFor (k .container) (mappedIn f k) purpose) b s
+
+-- a queue, by what the map has for its root's id: "A queue whose root id isn't in the map is skipped."
+unfoldable pub queueBy : (ℕ → List ℕ) → Checkpoint → PoolPlace → Purpose → Mapped → Marked Figures → Reads (Marked Figures)
+queueBy f k place purpose Nowhere s = done s
+queueBy f k place purpose (To m) s = readNode (k .container) (m .address) >>= λ b. scanRoot f k place purpose b s
+
+abbrev pub scanFor : (ℕ → List ℕ) → Checkpoint → PoolPlace → Purpose → ObjectId → Marked Figures → Reads (Marked Figures)
+scanFor f k place purpose root s = queueBy f k place purpose (mappedIn f k (root .0)) s

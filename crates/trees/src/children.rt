@@ -7,6 +7,7 @@ use blocks::ObjectId;
 use blocks::Refusal;
 use blocks::Seen;
 use checkpoint::Geometry;
+use checkpoint::Mapped;
 use nodes::Description;
 use nodes::Located;
 use nodes::Pointer;
@@ -164,4 +165,19 @@ pub fn next_child(image: &[u8], t: Tree, node: &[u8], level: u64, i: u64, n: u64
             }
         }
     }
+}
+
+// What the checkpoint map has for an id.
+pub fn mapped_at(image: &[u8], k: Checkpoint, id: u64) -> Mapped
+    ensures { λ r. ⌜ r ≡ mappedIn (blockOf (now (image .entry)) (k .container .size)) k id ⌝ }
+{
+    let container = k.container;
+    let g = Geometry {
+        size: container.size,
+        count: container.count,
+        base: k.base,
+        ring: k.ring,
+    };
+    let sb = blocks::block(image, container.size, k.superblock);
+    checkpoint::chain::lookup(image, g, sb, ObjectId(id))
 }

@@ -8,6 +8,7 @@ use report::OverlapLog;
 use report::Step;
 
 pub mod children;
+pub mod queues;
 pub mod scans;
 pub mod walks;
 

@@ -8,26 +8,14 @@ use crate::children::mapped_at;
 use crate::scans::done;
 use crate::scans::refused;
 use crate::scans::scan;
-use audit::Audit;
-use audit::Audited;
 use blocks::ObjectId;
 use blocks::Seen;
 use checkpoint::Mapped;
-use claims::Claimed;
 use nodes::Described;
-use nodes::Description;
 use pool::PoolPlace;
-use report::OverlapLog;
-ghost use mathlib.Core.Path.{_≡_};
 ghost use Rattle.blocks.specs.Blocks.{blockOf};
-ghost use Rattle.nodes.specs.Node.{readNode};
-ghost use Rattle.nodes.specs.Scan.{scan as scanOf};
-ghost use Rattle.audit.specs.Audit.{auditQueued};
-ghost use Rattle.audit.specs.Answers.{Audits, poolAt};
-ghost use Rattle.claims.specs.Claims.{claimMapping, claimQueued};
-ghost use Rattle.claims.specs.Answers.{owned};
-ghost use Rattle.trees.specs.Visits.{mappedIn, scanRoot, scanFor, queueIn};
-ghost use Rattle.trees.specs.Answers.{Visits, WalksWhole, figured};
+ghost use Rattle.trees.specs.Visits.{scanRoot, scanFor};
+ghost use Rattle.trees.specs.Answers.{Visits, figured};
 
 // The tree whose root was read from block at.
 fn scan_root(

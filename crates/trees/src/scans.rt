@@ -19,14 +19,14 @@ ghost use Rattle.trees.specs.Visits.{treeVisit, treeChild};
 ghost use Rattle.trees.specs.declared.Purpose.the-variants.{PoolQueue, Mappings, MainQueue};
 ghost use Rattle.trees.specs.Answers.{Visits, figured};
 
-fn refused(r: Refusal, figures: Figures) -> Visited
+pub(crate) fn refused(r: Refusal, figures: Figures) -> Visited
     ensures { λ v. ⌜ v ≡ record { step = Step.Refused r; figures = figures } ⌝ }
 {
     let step = Step::Refused(r);
     Visited { step, figures }
 }
 
-fn done(figures: Figures) -> Visited
+pub(crate) fn done(figures: Figures) -> Visited
     ensures { λ v. ⌜ v ≡ record { step = Step.Done; figures = figures } ⌝ }
 {
     let step = Step::Done;
@@ -100,14 +100,7 @@ fn claim_mapping(
 }
 
 // What the entry is for.
-fn visit(
-    image: &[u8],
-    map: &mut [u8],
-    t: Tree,
-    node: &[u8],
-    e: Places,
-    figures: Figures,
-) -> Visited
+fn visit(image: &[u8], map: &mut [u8], t: Tree, node: &[u8], e: Places, figures: Figures) -> Visited
     ensures { λ r. ⌜ Visits (now (image .entry)) (t .checkpoint) r (now (map .entry)) (now (map .exit)) (treeVisit (blockOf (now (image .entry)) (t .checkpoint .container .size)) t (t .purpose) (figured (now (map .entry)) figures) (placesIn (now (node .entry)) e)) ⌝ }
 {
     let purpose = t.purpose;
@@ -147,7 +140,14 @@ fn scan_leaf(image: &[u8], map: &mut [u8], t: Tree, node: &[u8], figures: Figure
 }
 
 // All entries below the node in block at, of a level: the scan calls itself on each child, one level below.
-fn scan_node(image: &[u8], map: &mut [u8], t: Tree, at: u64, level: u64, figures: Figures) -> Visited
+fn scan_node(
+    image: &[u8],
+    map: &mut [u8],
+    t: Tree,
+    at: u64,
+    level: u64,
+    figures: Figures,
+) -> Visited
     ensures { λ r. ⌜ Visits (now (image .entry)) (t .checkpoint) r (now (map .entry)) (now (map .exit)) (scanNode (treeVisit (blockOf (now (image .entry)) (t .checkpoint .container .size)) t (t .purpose)) (t .description) (treeChild (blockOf (now (image .entry)) (t .checkpoint .container .size)) t) (below (treeVisit (blockOf (now (image .entry)) (t .checkpoint .container .size)) t (t .purpose)) (t .description) (treeChild (blockOf (now (image .entry)) (t .checkpoint .container .size)) t) level) (blockOf (now (image .entry)) (t .checkpoint .container .size) at) (figured (now (map .entry)) figures)) ⌝ }
 {
     let k = t.checkpoint;

@@ -22,7 +22,7 @@ returns : tie.Need-returns
 returns c = load-refused _ _ _ _ (c .before .before .before .pool-indices .ensures) _ (c .before .seen .given .1)
 
 returns-2 : tie.Need-returns-2
-returns-2 c = load-there _ _ _ _ (c .before .before .before .before .pool-indices .ensures) (c .before .before .enum-told .given .1) _ (c .before .pool-place .ensures) _ (c .load-at .ensures)
+returns-2 c = load-there _ _ _ _ (c .before .before .before .before .pool-indices .ensures) (c .before .before .enum-told .given .1) _ (c .before .pool-place .ensures) (c .load-at .result) (c .load-at .ensures)
 
 pub load-pool-spec : {M : Type 1} → statement M
 load-pool-spec =
