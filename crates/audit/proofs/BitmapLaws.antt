@@ -1,15 +1,14 @@
 -- Laws of a chunk's bitmap: its bits one at a time, and its zeros added.
-use mathlib.Core.Bool.{Bool, true, false}
+use mathlib.Core.Bool.{true, false}
 use mathlib.Core.List.{List}
-use mathlib.Core.Path.{_≡_, refl, sym, ap, _∙_}
-use Prim.Native.Nat.{ℕ, suc, _+_, _-_, _*_, _≤_, _<_}
-use native.Mathlib.Omega.{arith}
+use mathlib.Core.Path.{_≡_, refl, sym, _∙_}
+use Prim.Native.Nat.{ℕ, _+_, _-_, _*_, _≤_, _<_}
 use lib.Dec.{leb, ltb, eqb}
 use lib.ListN.{length}
 use borrow.Author.Tests.{lt-ltb, le-ltb}
 use Rattle.fields.specs.Choice.{pick}
 use Rattle.fields.specs.Fields.{bitAt}
-use Rattle.blocks.specs.Reads.{Reads, done, Outcome, given, refused, run, _>>=_, need}
+use Rattle.blocks.specs.Reads.{done, given, refused, run, _>>=_, need}
 use Rattle.blocks.specs.Blocks.{readRaw, sum}
 use Rattle.blocks.specs.declared.Container.{Container}
 use Rattle.blocks.specs.declared.Refusal.{Refusal}
@@ -24,7 +23,7 @@ use Rattle.audit.specs.Audit.{enter, markFrom, tally}
 use Rattle.audit.specs.Answers.{Stepped, markSet, bitmapTallied, bitmapRead}
 use Rattle.audit.specs.declared.Audit.{Audit}
 use Rattle.audit.specs.declared.Audited.{Audited}
-use Rattle.audit.proofs.Laws.{bind-assoc, left-done, left-refused, given-then, used-then, raw-below}
+use Rattle.audit.proofs.Laws.{bind-assoc, none-left, one-less, left-done, left-refused, given-then, used-then, raw-below}
 
 -- a set bit's block, by the sum and the test
 module _ (f : ℕ → List ℕ) (c : Container) (start i : ℕ) (map : List ℕ) (zeros : ℕ) where
@@ -45,22 +44,16 @@ module _ (f : ℕ → List ℕ) (c : Container) (start i : ℕ) (map : List ℕ)
 module _ (c : Container) (bits : List ℕ) (start n i : ℕ) (s : Marked ℕ) where
   pub bits-done : n ≤ i → markFrom c bits start (n - i) i s ≡ done s
   unfolding markFrom
-  bits-done h = rw e refl
-    where
-      e : n - i ≡ 0
-      e = omega arith
+  bits-done h = rw (none-left n i h) refl
 
   module _ (h : i < n) where
-    one-less : n - i ≡ suc (n - (i + 1))
-    one-less = omega arith
-
     pub bits-clear : bitAt bits i ≡ false → markFrom c bits start (n - i) i s ≡ markFrom c bits start (n - (i + 1)) (i + 1) (record { map = s .map; figures = s .figures + 1 })
     unfolding markFrom
-    bits-clear b = rw (one-less, b) refl
+    bits-clear b = rw (one-less n i h, b) refl
 
     pub bits-set : bitAt bits i ≡ true → markFrom c bits start (n - i) i s ≡ markSet c start i s >>= markFrom c bits start (n - (i + 1)) (i + 1)
     unfolding markFrom markSet _>>=_
-    bits-set b = rw (one-less, b) (sym (bind-assoc (sum start i) _ _ ∙ (λ j. sum start i >>= (λ a. bind-assoc (need (ltb a (c .count)) BadBitmap) (λ _. done (record { map = update marked a (s .map); figures = s .figures })) (markFrom c bits start (n - (i + 1)) (i + 1)) j))))
+    bits-set b = rw (one-less n i h, b) (sym (bind-assoc (sum start i) _ _ ∙ (λ j. sum start i >>= (λ a. bind-assoc (need (ltb a (c .count)) BadBitmap) (λ _. done (record { map = update marked a (s .map); figures = s .figures })) (markFrom c bits start (n - (i + 1)) (i + 1)) j))))
 
 -- a chunk's zeros, by the two sums
 module _ (f : ℕ → List ℕ) (count : ℕ) (map : List ℕ) (ch : Chunk) (audit : Audit) (zeros : ℕ) where

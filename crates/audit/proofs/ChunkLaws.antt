@@ -1,12 +1,12 @@
 -- Laws of chunks and chunk-info blocks, one at a time.
 use mathlib.Core.List.{List}
-use mathlib.Core.Path.{_≡_, refl, sym, ap, _∙_}
-use Prim.Native.Nat.{ℕ, suc, _+_, _-_, _*_, _≤_, _<_}
+use mathlib.Core.Path.{_≡_, refl}
+use Prim.Native.Nat.{ℕ, _+_, _-_, _*_, _≤_, _<_}
 use native.Mathlib.Nat.{sub-zero, add-zero}
 use native.Mathlib.Omega.{arith}
 use borrow.Author.Tests.{eq-eqb, ne-eqb}
 use Rattle.fields.specs.Fields.{num}
-use Rattle.blocks.specs.Reads.{done, given, refused, run, _>>=_}
+use Rattle.blocks.specs.Reads.{done, given, run, _>>=_}
 use Rattle.blocks.specs.declared.Container.{Container}
 use Rattle.manager.specs.Chunks.{chunkAt, chunksAt, chunkLength, chunkCount, chunksOf}
 use Rattle.manager.specs.Lists.{values, records}
@@ -17,7 +17,7 @@ use Rattle.pool.specs.Pool.{Pool}
 use Rattle.audit.specs.Audit.{enter, tally, auditBitmap, auditChunk, auditChunks, auditInfo, auditInfos}
 use Rattle.audit.specs.Answers.{Stepped, infoEntered}
 use Rattle.audit.specs.declared.Audit.{Audit}
-use Rattle.audit.proofs.Laws.{given-then, used-then}
+use Rattle.audit.proofs.Laws.{none-left, one-less, given-then, used-then}
 
 -- a chunk, by whether it has a bitmap
 module _ (c : Container) (p : Pool) (ch : Chunk) (s : Marked Audit) where
@@ -28,13 +28,6 @@ module _ (c : Container) (p : Pool) (ch : Chunk) (s : Marked Audit) where
   pub chunk-mapped : (ch .bitmap ≡ 0 → ⊥) → auditBitmap c p ch s ≡ auditChunk c p ch s
   unfolding auditChunk
   chunk-mapped e = simp (ne-eqb _ _ e)
-
-module _ (n i : ℕ) where
-  none-left : n ≤ i → n - i ≡ 0
-  none-left h = omega arith
-
-  one-less : i < n → n - i ≡ suc (n - (i + 1))
-  one-less h = omega arith
 
 -- the chunks of a block's records from i on, of n
 module _ (c : Container) (p : Pool) (b : List ℕ) (n i : ℕ) (s : Marked Audit) where

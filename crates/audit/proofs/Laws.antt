@@ -2,9 +2,10 @@
 use mathlib.Core.Bool.{Bool, true, false}
 use mathlib.Core.List.{List}
 use mathlib.Core.Path.{_≡_, refl, sym, ap, _∙_}
-use Prim.Native.Nat.{ℕ, _<_}
+use Prim.Native.Nat.{ℕ, suc, _+_, _-_, _≤_, _<_}
+use native.Mathlib.Omega.{arith}
 use borrow.Author.Tests.{ltb-true}
-use Rattle.blocks.specs.Reads.{Reads, done, refuse, read, Outcome, given, refused, run, _>>=_, need}
+use Rattle.blocks.specs.Reads.{Reads, done, refuse, read, Outcome, given, refused, run, _>>=_}
 use Rattle.blocks.specs.Blocks.{readRaw}
 use Rattle.blocks.specs.declared.Address.{Address}
 use Rattle.blocks.specs.declared.Container.{Container}
@@ -72,6 +73,14 @@ answer-refused count map audit a r q e = rw q (left-refused count map audit r e)
 pub raw-below : (f : ℕ → List ℕ) (c : Container) (a : Address) (b : List ℕ) → run f (readRaw c a) ≡ given b → a .0 < c .count
 unfolding readRaw
 raw-below f c a b e = ltb-true _ _ (need-held f _ _ _ b e .0)
+
+-- what a loop at turn i of n has left
+module _ (n i : ℕ) where
+  pub none-left : n ≤ i → n - i ≡ 0
+  none-left h = omega arith
+
+  pub one-less : i < n → n - i ≡ suc (n - (i + 1))
+  one-less h = omega arith
 
 -- a loop at its head: what is left from here gives what the whole gives
 pub record Reached {F : Type 0} (f : ℕ → List ℕ) (count : ℕ) (before map : List ℕ) (left whole : Reads (Marked F)) : Type 0 where

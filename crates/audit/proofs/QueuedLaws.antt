@@ -1,8 +1,8 @@
 -- Laws of queued blocks, one at a time.
 use mathlib.Core.Bool.{not, true, false}
 use mathlib.Core.List.{List}
-use mathlib.Core.Path.{_≡_, refl, sym, ap, _∙_}
-use Prim.Native.Nat.{ℕ, suc, _+_, _-_, _≤_, _<_}
+use mathlib.Core.Path.{_≡_, refl, sym, _∙_}
+use Prim.Native.Nat.{ℕ, _+_, _-_, _≤_, _<_}
 use native.Mathlib.Omega.{arith}
 use lib.Dec.{leb}
 use Rattle.blocks.specs.Reads.{done, given, refused, run, _>>=_}
@@ -19,24 +19,18 @@ use Rattle.pool.specs.Pool.{Pool, poolMarked}
 use Rattle.audit.specs.Audit.{unless, enter, queuedUnmarked, queuedInUse, auditQueuedFrom, auditQueued}
 use Rattle.audit.specs.Answers.{Stepped, queuedEntered, auditQueuedBlock}
 use Rattle.audit.specs.declared.Audit.{Audit}
-use Rattle.audit.proofs.Laws.{bind-assoc, given-then}
+use Rattle.audit.proofs.Laws.{bind-assoc, none-left, one-less, given-then}
 
 -- the blocks of a run from place i on, of n
 module _ (c : Container) (p : Pool) (start n i : ℕ) (s : Marked Audit) where
   pub queued-done : n ≤ i → auditQueuedFrom c p (n - i) (start + i) s ≡ done s
   unfolding auditQueuedFrom
-  queued-done h = rw e refl
-    where
-      e : n - i ≡ 0
-      e = omega arith
+  queued-done h = rw (none-left n i h) refl
 
   pub queued-more : i < n → auditQueuedFrom c p (n - i) (start + i) s ≡ auditQueuedBlock c p (start + i) s >>= auditQueuedFrom c p (n - (i + 1)) (start + (i + 1))
   unfolding auditQueuedFrom auditQueuedBlock queuedEntered _>>=_
-  queued-more h = rw (e, a) (sym (bind-assoc (unless (poolMarked p (start + i)) queuedUnmarked (start + i) s) _ _ ∙ (λ j. unless (poolMarked p (start + i)) queuedUnmarked (start + i) s >>= (λ s₁. bind-assoc (unless (not (usedAt c (s₁ .map) (start + i))) queuedInUse (start + i) s₁) (λ s₂. done (enter (start + i) s₂)) (auditQueuedFrom c p (n - (i + 1)) (start + (i + 1))) j))))
+  queued-more h = rw (one-less n i h, a) (sym (bind-assoc (unless (poolMarked p (start + i)) queuedUnmarked (start + i) s) _ _ ∙ (λ j. unless (poolMarked p (start + i)) queuedUnmarked (start + i) s >>= (λ s₁. bind-assoc (unless (not (usedAt c (s₁ .map) (start + i))) queuedInUse (start + i) s₁) (λ s₂. done (enter (start + i) s₂)) (auditQueuedFrom c p (n - (i + 1)) (start + (i + 1))) j))))
     where
-      e : n - i ≡ suc (n - (i + 1))
-      e = omega arith
-
       a : start + i + 1 ≡ start + (i + 1)
       a = omega arith
 

@@ -172,16 +172,16 @@ fn audit_listed(
     let m = p.manager;
     let n = manager::place::u32_of(image, container, m, INFO_COUNT);
     let mut found = audit;
-    let mut i = 0;
-    while i < n {
-        let a = manager::lists::chunk_info(image, container, m, i);
+    let mut k = 0;
+    while k < n {
+        let a = manager::lists::chunk_info(image, container, m, k);
         let audited = audit_info(image, map, container, p, a, found);
         let step = audited.step;
         match step {
             Step::Refused(_) => return audited,
             Step::Done => {
                 found = audited.audit;
-                i += 1;
+                k += 1;
             }
         }
     }

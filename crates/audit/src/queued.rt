@@ -9,17 +9,18 @@ use pool::PoolPlace;
 use queue::Ran;
 use queue::Run;
 use report::Step;
+ghost use mathlib.Core.List.{List};
 ghost use mathlib.Core.Path.{_≡_};
 ghost use Prim.Native.Nat.{ℕ, _+_, _<_, _≤_};
 ghost use lib.Dec.{leb};
 ghost use Rattle.queue.specs.Answers.{placesIn};
 ghost use Rattle.audit.specs.Audit.{auditQueuedFrom, auditQueued};
-ghost use Rattle.audit.specs.Answers.{Audits, poolAt, queuedEntered, auditQueuedBlock};
+ghost use Rattle.audit.specs.Answers.{Stepped, Audits, poolAt, queuedEntered, auditQueuedBlock};
 
 // A queued block, once its first problem is logged.
-fn enter_queued(image: &[u8], map: &mut [u8], container: Container, a: u64, audit: Audit) -> Audited
+fn enter_queued(map: &mut [u8], container: Container, a: u64, audit: Audit) -> Audited
     requires { ⌜ a < container .count ⌝ }
-    ensures { λ r. ⌜ Audits (now (image .entry)) container r (now (map .entry)) (now (map .exit)) (queuedEntered container a (record { map = now (map .entry); figures = audit })) ⌝ }
+    ensures { λ r. ⌜ ((f : ℕ → List ℕ) → Stepped f (container .count) (r .step) (now (map .entry)) (now (map .exit)) (r .audit) (queuedEntered container a (record { map = now (map .entry); figures = audit }))) ⌝ }
 {
     let used = block_map::used_at(map, container, a);
     let audited = problems::unless(!used, problems::QUEUED_IN_USE, a, audit);
@@ -33,6 +34,7 @@ fn enter_queued(image: &[u8], map: &mut [u8], container: Container, a: u64, audi
     }
 }
 
+// A queued block: unmarked, and then in use.
 fn audit_queued_block(
     image: &[u8],
     map: &mut [u8],
@@ -51,7 +53,7 @@ fn audit_queued_block(
         Step::Refused(_) => audited,
         Step::Done => {
             let next = audited.audit;
-            enter_queued(image, map, container, a, next)
+            enter_queued(map, container, a, next)
         }
     }
 }

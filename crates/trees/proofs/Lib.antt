@@ -2,3 +2,4 @@
 pub mod ChildLaws
 pub mod ScanLaws
 pub mod WalkLaws
+pub mod VisitLaws

@@ -1,14 +1,10 @@
 use borrow.Author.Tests.{eq-eqb, ne-eqb}
 use Rattle.audit.proofs.bitmap.differing.Statement.{statement}
 use Rattle.audit.proofs.bitmap.differing.Tie as tie
-use Rattle.audit.proofs.bitmap.differing.Reads as reads
-use Rattle.audit.proofs.bitmap.differing.Lts as lts
 
--- src/bitmap.rt:64:1
 returns : tie.Need-returns
 returns c = simp (eq-eqb _ _ (c .if1 .taken))
 
--- src/bitmap.rt:64:1
 returns-2 : tie.Need-returns-2
 returns-2 c = simp (ne-eqb _ _ (c .if1 .left))
 

@@ -6,22 +6,16 @@ use mathlib.Core.Path.{sym}
 use borrow.Author.Needs.{needs}
 use Rattle.audit.proofs.bitmap.has_bits.Statement.{statement}
 use Rattle.audit.proofs.bitmap.has_bits.Tie as tie
-use Rattle.audit.proofs.bitmap.has_bits.Reads as reads
-use Rattle.audit.proofs.bitmap.has_bits.Lts as lts
 
--- src/bitmap.rt:122:9
 returns : tie.Need-returns
 returns c = let a = c .before .args in sym (le-leb (a .n) (length (a .bits .now) * 8) (omega arith))
 
--- src/bitmap.rt:124:9
 sub-if2 : tie.Need-sub-if2
 sub-if2 c = search needs
 
--- src/bitmap.rt:125:9
 returns-2 : tie.Need-returns-2
 returns-2 c = let a = c .before .before .args in sym (le-leb (a .n) (length (a .bits .now) * 8) (omega arith))
 
--- src/bitmap.rt:118:1
 returns-3 : tie.Need-returns-3
 returns-3 c = let a = c .before .before .args in sym (lt-leb (a .n) (length (a .bits .now) * 8) (omega arith))
 

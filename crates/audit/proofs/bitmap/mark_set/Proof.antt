@@ -4,40 +4,28 @@ use mathlib.Core.Path.{sym, ap, _∙_}
 use borrow.Author.Needs.{needs}
 use Rattle.audit.proofs.bitmap.mark_set.Statement.{statement}
 use Rattle.audit.proofs.bitmap.mark_set.Tie as tie
-use Rattle.audit.proofs.bitmap.mark_set.Reads as reads
-use Rattle.audit.proofs.bitmap.mark_set.Lts as lts
-use Rattle.block_map.proofs.mark_block.Reads as mark-block-reads
-use Rattle.blocks.proofs.add.Reads as add-reads
 
--- src/bitmap.rt:28:9
 add-requires : tie.Need-add-requires
 add-requires c κs = search needs
 
--- src/bitmap.rt:30:24
 enum-known-sum : tie.Need-enum-known-sum
 enum-known-sum c = search needs
 
--- src/bitmap.rt:31:19
 enum-known-sum-2 : tie.Need-enum-known-sum-2
 enum-known-sum-2 c = search needs
 
--- src/bitmap.rt:33:17
 returns : tie.Need-returns
 returns c = λ f zeros. set-past f _ _ _ _ zeros _ (sym (c .before .before .before .before .before .add .ensures f) ∙ ap addedAs (c .before .before .before .sum2 .given .1)) (c .if1 .taken)
 
--- src/bitmap.rt:35:13
 mark-block-requires : tie.Need-mark-block-requires
 mark-block-requires c κs = search needs
 
--- src/bitmap.rt:25:1
 returns-2 : tie.Need-returns-2
 returns-2 c = λ f zeros. set-refused f _ _ _ _ zeros _ (sym (c .before .before .before .add .ensures f) ∙ ap addedAs (c .before .sum .given .1))
 
--- src/bitmap.rt:25:1
 same-length : tie.Need-same-length
 same-length c = search needs
 
--- src/bitmap.rt:25:1
 returns-3 : tie.Need-returns-3
 returns-3 c = λ f zeros. set-marked f _ _ _ _ zeros _ (sym (c .before .before .before .before .before .before .before .before .before .add .ensures f) ∙ ap addedAs (c .before .before .before .before .before .before .before .sum2 .given .1)) _ (c .before .before .before .before .if1 .left) (c .before .before .mark-block .ensures)
 

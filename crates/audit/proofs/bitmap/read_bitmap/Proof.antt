@@ -9,65 +9,44 @@ use mathlib.Core.Path.{sym, ap, _∙_}
 use borrow.Author.Needs.{needs}
 use Rattle.audit.proofs.bitmap.read_bitmap.Statement.{statement}
 use Rattle.audit.proofs.bitmap.read_bitmap.Tie as tie
-use Rattle.audit.proofs.bitmap.read_bitmap.Reads as reads
-use Rattle.audit.proofs.bitmap.read_bitmap.Lts as lts
-use Rattle.audit.proofs.bitmap.has_bits.Reads as has-bits-reads
-use Rattle.audit.proofs.bitmap.tally_bitmap.Reads as tally-bitmap-reads
-use Rattle.audit.proofs.problems.refused.Reads as refused-reads
-use Rattle.block_map.proofs.use_block.Reads as use-block-reads
-use Rattle.blocks.proofs.block.Reads as block-reads
-use Rattle.blocks.proofs.raw_block.Reads as raw-block-reads
 
--- src/bitmap.rt:141:9
 raw-block-requires : tie.Need-raw-block-requires
 raw-block-requires c κs = search needs
 
--- src/bitmap.rt:143:23
 enum-known-seen : tie.Need-enum-known-seen
 enum-known-seen c = search needs
 
--- src/bitmap.rt:143:29
 refused-requires : tie.Need-refused-requires
 refused-requires c κs = search needs
 
--- src/bitmap.rt:145:17
 enum-told : tie.Need-enum-told
 enum-told c = search needs
 
--- src/bitmap.rt:145:17
 block-requires : tie.Need-block-requires
 block-requires c κs = search needs
 
--- src/bitmap.rt:146:17
 has-bits-requires : tie.Need-has-bits-requires
 has-bits-requires c κs = search needs
 
--- src/bitmap.rt:147:17
 refused-requires-2 : tie.Need-refused-requires-2
 refused-requires-2 c κs = search needs
 
--- src/bitmap.rt:147:17
 returns : tie.Need-returns
 returns c = answer-refused _ _ _ _ _ (c .refused2 .ensures) (bitmap-short _ _ _ _ _ _ (sym (c .before .before .before .before .before .before .raw-block .ensures _) ∙ ap (seenAs _) (c .before .before .before .before .enum-told .given .1) ∙ ap given (sym (c .before .before .before .block .ensures))) (sym (c .before .before .has-bits .ensures) ∙ not-true _ (c .before .if1 .taken)))
 
--- src/bitmap.rt:149:13
 use-block-requires : tie.Need-use-block-requires
 use-block-requires c κs = search needs
 
--- src/bitmap.rt:150:13
 tally-bitmap-requires : tie.Need-tally-bitmap-requires
 tally-bitmap-requires c κs = search needs
 
--- src/bitmap.rt:131:1
 returns-2 : tie.Need-returns-2
 unfolding bitmapRead
 returns-2 c = answer-refused _ _ _ _ _ (c .refused .ensures) (then-refused _ _ _ _ (sym (c .before .before .before .before .raw-block .ensures _) ∙ ap (seenAs _) (c .before .before .seen .given .1)))
 
--- src/bitmap.rt:131:1
 same-length : tie.Need-same-length
 same-length c = search needs
 
--- src/bitmap.rt:131:1
 returns-3 : tie.Need-returns-3
 returns-3 c = bitmap-there _ _ _ _ _ _ (sym (c .before .before .before .before .before .before .before .before .before .before .before .before .before .raw-block .ensures _) ∙ ap (seenAs _) (c .before .before .before .before .before .before .before .before .before .before .before .enum-told .given .1) ∙ ap given (sym (c .before .before .before .before .before .before .before .before .before .before .block .ensures))) (sym (c .before .before .before .before .before .before .before .before .before .has-bits .ensures) ∙ not-false _ (c .before .before .before .before .before .before .before .before .if1 .left)) (c .before .before .before .before .before .before .use-block .ensures) (c .before .before .tally-bitmap .ensures _)
 

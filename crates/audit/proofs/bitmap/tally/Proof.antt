@@ -4,62 +4,43 @@ use mathlib.Core.Path.{sym, ap, _∙_}
 use borrow.Author.Needs.{needs}
 use Rattle.audit.proofs.bitmap.tally.Statement.{statement}
 use Rattle.audit.proofs.bitmap.tally.Tie as tie
-use Rattle.audit.proofs.bitmap.tally.Reads as reads
-use Rattle.audit.proofs.bitmap.tally.Lts as lts
-use Rattle.audit.proofs.bitmap.differing.Reads as differing-reads
-use Rattle.audit.proofs.problems.done.Reads as done-reads
-use Rattle.audit.proofs.problems.refused.Reads as refused-reads
-use Rattle.blocks.proofs.add.Reads as add-reads
 
--- src/bitmap.rt:74:9
 add-requires : tie.Need-add-requires
 add-requires c κs = search needs
 
--- src/bitmap.rt:76:24
 enum-known-free : tie.Need-enum-known-free
 enum-known-free c = search needs
 
--- src/bitmap.rt:76:30
 refused-requires : tie.Need-refused-requires
 refused-requires c κs = search needs
 
--- src/bitmap.rt:77:19
 enum-known-free-2 : tie.Need-enum-known-free-2
 enum-known-free-2 c = search needs
 
--- src/bitmap.rt:78:50
 differing-requires : tie.Need-differing-requires
 differing-requires c κs = search needs
 
--- src/bitmap.rt:78:17
 add-requires-2 : tie.Need-add-requires-2
 add-requires-2 c κs = search needs
 
--- src/bitmap.rt:80:32
 enum-known-wrong : tie.Need-enum-known-wrong
 enum-known-wrong c = search needs
 
--- src/bitmap.rt:80:38
 refused-requires-2 : tie.Need-refused-requires-2
 refused-requires-2 c κs = search needs
 
--- src/bitmap.rt:81:27
 enum-known-wrong-2 : tie.Need-enum-known-wrong-2
 enum-known-wrong-2 c = search needs
 
--- src/bitmap.rt:83:21
 done-requires : tie.Need-done-requires
 done-requires c κs = search needs
 
--- src/bitmap.rt:71:1
 returns : tie.Need-returns
 returns c = λ f count map. tally-refused f count map _ _ _ _ _ (sym (c .before .before .before .before .add .ensures f) ∙ ap addedAs (c .before .before .free .given .1)) (c .refused .ensures)
 
--- src/bitmap.rt:71:1
 returns-2 : tie.Need-returns-2
 returns-2 c = λ f count map. tally-wrong f count map _ _ _ _ _ _ (sym (c .before .before .before .before .before .before .before .before .before .add .ensures f) ∙ ap addedAs (c .before .before .before .before .before .before .before .free2 .given .1)) (c .before .before .before .before .before .differing .ensures) _ (sym (c .before .before .before .before .add2 .ensures f) ∙ ap addedAs (c .before .before .wrong .given .1)) (c .refused2 .ensures)
 
--- src/bitmap.rt:71:1
 returns-3 : tie.Need-returns-3
 returns-3 c = λ f count map. tally-done f count map _ _ _ _ _ _ (sym (c .before .before .before .before .before .before .before .before .before .before .add .ensures f) ∙ ap addedAs (c .before .before .before .before .before .before .before .before .free2 .given .1)) (c .before .before .before .before .before .before .differing .ensures) _ (sym (c .before .before .before .before .before .add2 .ensures f) ∙ ap addedAs (c .before .before .before .wrong2 .given .1)) (c .done .ensures)
 

@@ -9,12 +9,6 @@ use Prim.Native.Nat.{_+_, _-_, _*_, _≤_}
 use borrow.Author.Needs.{needs}
 use Rattle.audit.proofs.chunks.audit_chunks.Statement.{statement}
 use Rattle.audit.proofs.chunks.audit_chunks.Tie as tie
-use Rattle.audit.proofs.chunks.audit_chunks.Reads as reads
-use Rattle.audit.proofs.chunks.audit_chunks.Lts as lts
-use Rattle.audit.proofs.chunks.audit_chunk.Reads as audit-chunk-reads
-use Rattle.audit.proofs.problems.done.Reads as done-reads
-use Rattle.fields.proofs.u32_of.Reads as u32-of-reads
-use Rattle.manager.proofs.chunks.chunk_at.Reads as chunk-at-reads
 
 abbrev Inv-loop : tie.InvT-loop
 Inv-loop image map₀ container p block n found₀ i₀ map found i = (i ≤ n) × Reached (blockOf image (container .size)) (container .count) map₀ map (auditChunks container (poolAt image container p) (records block (n - i) (chunksAt + chunkLength * i)) (record { map = map; figures = found })) (auditChunks container (poolAt image container p) (records block (chunkCount block) chunksAt) (record { map = map₀; figures = found₀ }))
@@ -22,59 +16,45 @@ Inv-loop image map₀ container p block n found₀ i₀ map found i = (i ≤ n) 
 abbrev μ-loop : tie.MeasureT-loop
 μ-loop image map₀ container p block n found₀ i₀ map found i = n - i
 
--- src/chunks.rt:77:9
 u32-of-requires : tie.Need-u32-of-requires Inv-loop μ-loop
 u32-of-requires c κs = search needs
 
--- src/chunks.rt:80:5
 loop-holds : tie.Need-loop-holds Inv-loop μ-loop
 loop-holds c = (search needs, reached-first _ _ _ _ _ (chunks-first _ _ _ _ _ (c .u32-of .ensures .is)))
 
--- src/chunks.rt:81:13
 chunk-at-requires : tie.Need-chunk-at-requires Inv-loop μ-loop
 chunk-at-requires c κs = search needs
 
--- src/chunks.rt:82:13
 audit-chunk-requires : tie.Need-audit-chunk-requires Inv-loop μ-loop
 audit-chunk-requires c κs = search needs
 
--- src/chunks.rt:85:33
 enum-told : tie.Need-enum-told Inv-loop μ-loop
 enum-told c = search needs
 
--- src/chunks.rt:85:33
 returns : tie.Need-returns Inv-loop μ-loop
 returns c = reached-stop (c .before .before .before .before .before .before .before .before .loop .inv .1) (c .before .before .before .before .audit-chunk .ensures) _ (chunks-more _ _ _ _ _ _ _ (c .before .before .before .before .before .before .chunk-at .ensures) (c .before .before .before .before .before .before .before .loop-test .taken)) _ _ (c .enum-told .given .1)
 
--- src/chunks.rt:85:33
 same-length : tie.Need-same-length Inv-loop μ-loop
 same-length c = returns c .kept .long
 
--- src/chunks.rt:87:17
 enum-told-2 : tie.Need-enum-told-2 Inv-loop μ-loop
 enum-told-2 c = search needs
 
--- src/chunks.rt:88:17
 add-i : tie.Need-add-i Inv-loop μ-loop
 add-i c = search needs
 
--- src/chunks.rt:80:5
 loop-less : tie.Need-loop-less Inv-loop μ-loop
 loop-less c = search needs
 
--- src/chunks.rt:80:5
 loop-again : tie.Need-loop-again Inv-loop μ-loop
 loop-again c = (search needs, reached-more (c .before .before .before .before .before .before .before .before .before .loop .inv .1) (c .before .before .before .before .before .audit-chunk .ensures) _ (chunks-more _ _ _ _ _ _ _ (c .before .before .before .before .before .before .before .chunk-at .ensures) (c .before .before .before .before .before .before .before .before .loop-test .taken)) (c .before .enum-told2 .given .1))
 
--- src/chunks.rt:92:5
 done-requires : tie.Need-done-requires Inv-loop μ-loop
 done-requires c κs = search needs
 
--- src/chunks.rt:67:1
 returns-2 : tie.Need-returns-2 Inv-loop μ-loop
 returns-2 c = reached-answer (c .before .before .loop .inv .1) _ _ (c .done .ensures) (chunks-done _ _ _ _ _ _ (c .before .loop-test .left))
 
--- src/chunks.rt:67:1
 same-length-2 : tie.Need-same-length-2 Inv-loop μ-loop
 same-length-2 c = returns-2 c .kept .long
 

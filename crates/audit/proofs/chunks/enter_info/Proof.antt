@@ -7,47 +7,32 @@ use mathlib.Core.Path.{sym, ap, _∙_}
 use borrow.Author.Needs.{needs}
 use Rattle.audit.proofs.chunks.enter_info.Statement.{statement}
 use Rattle.audit.proofs.chunks.enter_info.Tie as tie
-use Rattle.audit.proofs.chunks.enter_info.Reads as reads
-use Rattle.audit.proofs.chunks.enter_info.Lts as lts
-use Rattle.audit.proofs.chunks.audit_chunks.Reads as audit-chunks-reads
-use Rattle.audit.proofs.problems.refused.Reads as refused-reads
-use Rattle.block_map.proofs.use_block.Reads as use-block-reads
-use Rattle.manager.proofs.chunks.chunks_there.Reads as chunks-there-reads
 
--- src/chunks.rt:108:9
 chunks-there-requires : tie.Need-chunks-there-requires
 chunks-there-requires c κs = search needs
 
--- src/chunks.rt:110:23
 enum-known-seen : tie.Need-enum-known-seen
 enum-known-seen c = search needs
 
--- src/chunks.rt:110:29
 refused-requires : tie.Need-refused-requires
 refused-requires c κs = search needs
 
--- src/chunks.rt:112:34
 enum-told : tie.Need-enum-told
 enum-told c = search needs
 
--- src/chunks.rt:112:13
 use-block-requires : tie.Need-use-block-requires
 use-block-requires c κs = search needs
 
--- src/chunks.rt:113:13
 audit-chunks-requires : tie.Need-audit-chunks-requires
 audit-chunks-requires c κs = search needs
 
--- src/chunks.rt:96:1
 returns : tie.Need-returns
 unfolding infoEntered
 returns c = answer-refused _ _ _ _ _ (c .refused .ensures) (then-refused _ _ _ _ (sym (c .before .before .before .before .chunks-there .ensures _) ∙ ap (seenAs _) (c .before .before .seen .given .1)))
 
--- src/chunks.rt:96:1
 same-length : tie.Need-same-length
 same-length c = search needs
 
--- src/chunks.rt:96:1
 returns-2 : tie.Need-returns-2
 returns-2 c = info-there _ _ _ _ _ _ (sym (c .before .before .before .before .before .before .before .before .before .before .chunks-there .ensures _) ∙ ap (seenAs _) (c .before .before .before .before .before .before .before .before .enum-told .given .1)) (c .before .before .before .before .before .before .before .before .before .before .before .before .before .before .pre) (c .before .before .before .before .before .before .use-block .ensures) (c .before .before .audit-chunks .ensures)
 

@@ -8,47 +8,32 @@ use mathlib.Core.Path.{refl, sym, ap, _∙_}
 use borrow.Author.Needs.{needs}
 use Rattle.audit.proofs.chunks.read_info.Statement.{statement}
 use Rattle.audit.proofs.chunks.read_info.Tie as tie
-use Rattle.audit.proofs.chunks.read_info.Reads as reads
-use Rattle.audit.proofs.chunks.read_info.Lts as lts
-use Rattle.audit.proofs.chunks.enter_info.Reads as enter-info-reads
-use Rattle.audit.proofs.problems.refused.Reads as refused-reads
-use Rattle.blocks.proofs.block.Reads as block-reads
-use Rattle.blocks.proofs.raw_block.Reads as raw-block-reads
 
--- src/chunks.rt:129:9
 raw-block-requires : tie.Need-raw-block-requires
 raw-block-requires c κs = search needs
 
--- src/chunks.rt:131:23
 enum-known-seen : tie.Need-enum-known-seen
 enum-known-seen c = search needs
 
--- src/chunks.rt:131:29
 refused-requires : tie.Need-refused-requires
 refused-requires c κs = search needs
 
--- src/chunks.rt:133:17
 enum-told : tie.Need-enum-told
 enum-told c = search needs
 
--- src/chunks.rt:133:17
 block-requires : tie.Need-block-requires
 block-requires c κs = search needs
 
--- src/chunks.rt:134:13
 enter-info-requires : tie.Need-enter-info-requires
 enter-info-requires c κs = raw-below (blockOf (c .before .before .before .before .before .before .before .args .image .now) (c .before .before .before .before .before .before .before .args .container .size)) _ _ _ (sym (c .before .before .before .before .raw-block .ensures _) ∙ ap (seenAs _) (c .before .before .enum-told .given .1))
 
--- src/chunks.rt:119:1
 returns : tie.Need-returns
 unfolding infoRead
 returns c = answer-refused _ _ _ _ _ (c .refused .ensures) (then-refused _ _ _ _ (sym (c .before .before .before .before .raw-block .ensures _) ∙ ap (seenAs _) (c .before .before .seen .given .1)))
 
--- src/chunks.rt:119:1
 same-length : tie.Need-same-length
 same-length c = search needs
 
--- src/chunks.rt:119:1
 returns-2 : tie.Need-returns-2
 unfolding infoRead
 returns-2 c = given-then (c .before .before .enter-info .ensures) _ _ _ (sym (c .before .before .before .before .before .before .before .raw-block .ensures _) ∙ ap (seenAs _) (c .before .before .before .before .before .enum-told .given .1) ∙ ap given (sym (c .before .before .before .before .block .ensures))) refl

@@ -2,24 +2,16 @@ use Rattle.audit.proofs.Laws.{unless-holds, unless-fails}
 use borrow.Author.Needs.{needs}
 use Rattle.audit.proofs.problems.unless.Statement.{statement}
 use Rattle.audit.proofs.problems.unless.Tie as tie
-use Rattle.audit.proofs.problems.unless.Reads as reads
-use Rattle.audit.proofs.problems.unless.Lts as lts
-use Rattle.audit.proofs.problems.done.Reads as done-reads
-use Rattle.report.proofs.logs.add_problem.Reads as add-problem-reads
 
--- src/problems.rt:43:9
 done-requires : tie.Need-done-requires
 done-requires c κs = search needs
 
--- src/problems.rt:43:9
 returns : tie.Need-returns
 returns c = λ f count map. unless-holds f count map _ _ _ _ _ (c .before .if1 .taken) (c .done .ensures)
 
--- src/problems.rt:46:9
 add-problem-requires : tie.Need-add-problem-requires
 add-problem-requires c κs = search needs
 
--- src/problems.rt:39:1
 returns-2 : tie.Need-returns-2
 returns-2 c = λ f count map. unless-fails f count map _ _ _ _ _ _ (c .before .before .before .if1 .left) (c .before .add-problem .ensures)
 

@@ -6,54 +6,37 @@ use mathlib.Core.Path.{sym, ap, _∙_}
 use borrow.Author.Needs.{needs}
 use Rattle.audit.proofs.queued.audit_queued.Statement.{statement}
 use Rattle.audit.proofs.queued.audit_queued.Tie as tie
-use Rattle.audit.proofs.queued.audit_queued.Reads as reads
-use Rattle.audit.proofs.queued.audit_queued.Lts as lts
-use Rattle.audit.proofs.problems.refused.Reads as refused-reads
-use Rattle.audit.proofs.queued.audit_run.Reads as audit-run-reads
-use Rattle.audit.proofs.queued.has_run.Reads as has-run-reads
-use Rattle.queue.proofs.run_of.Reads as run-of-reads
 
--- src/queued.rt:112:9
 run-of-requires : tie.Need-run-of-requires
 run-of-requires c κs = search needs
 
--- src/queued.rt:114:22
 enum-known-ran : tie.Need-enum-known-ran
 enum-known-ran c = search needs
 
--- src/queued.rt:114:28
 refused-requires : tie.Need-refused-requires
 refused-requires c κs = search needs
 
--- src/queued.rt:115:17
 enum-known-ran-2 : tie.Need-enum-known-ran-2
 enum-known-ran-2 c = search needs
 
--- src/queued.rt:116:17
 has-run-requires : tie.Need-has-run-requires
 has-run-requires c κs = search needs
 
--- src/queued.rt:117:17
 refused-requires-2 : tie.Need-refused-requires-2
 refused-requires-2 c κs = search needs
 
--- src/queued.rt:117:17
 returns : tie.Need-returns
 returns c = answer-refused _ _ _ _ _ (c .refused2 .ensures) (entry-past _ _ _ _ _ _ (sym (c .before .before .before .before .before .before .run-of .ensures _) ∙ ap ranAs (c .before .before .before .before .ran2 .given .1)) (sym (c .before .before .has-run .ensures) ∙ not-true _ (c .before .if1 .taken)))
 
--- src/queued.rt:119:13
 audit-run-requires : tie.Need-audit-run-requires
 audit-run-requires c κs = leb-true _ _ (sym (c .before .before .has-run .ensures) ∙ not-false _ (c .before .if1 .left))
 
--- src/queued.rt:101:1
 returns-2 : tie.Need-returns-2
 returns-2 c = answer-refused _ _ _ _ _ (c .refused .ensures) (entry-refused _ _ _ _ _ _ (sym (c .before .before .before .before .run-of .ensures _) ∙ ap ranAs (c .before .before .ran .given .1)))
 
--- src/queued.rt:101:1
 same-length : tie.Need-same-length
 same-length c = search needs
 
--- src/queued.rt:101:1
 returns-3 : tie.Need-returns-3
 returns-3 c = entry-inside _ _ _ _ _ _ (sym (c .before .before .before .before .before .before .before .before .before .run-of .ensures _) ∙ ap ranAs (c .before .before .before .before .before .before .before .ran2 .given .1)) (sym (c .before .before .before .before .before .has-run .ensures) ∙ not-false _ (c .before .before .before .before .if1 .left)) (c .before .before .audit-run .ensures)
 

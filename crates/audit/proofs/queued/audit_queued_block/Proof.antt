@@ -3,45 +3,32 @@ use Rattle.audit.specs.Answers.{auditQueuedBlock}
 use borrow.Author.Needs.{needs}
 use Rattle.audit.proofs.queued.audit_queued_block.Statement.{statement}
 use Rattle.audit.proofs.queued.audit_queued_block.Tie as tie
-use Rattle.audit.proofs.queued.audit_queued_block.Reads as reads
-use Rattle.audit.proofs.queued.audit_queued_block.Lts as lts
-use Rattle.audit.proofs.problems.unless.Reads as unless-reads
-use Rattle.audit.proofs.queued.enter_queued.Reads as enter-queued-reads
-use Rattle.pool.proofs.pool_marked.Reads as pool-marked-reads
 
--- src/queued.rt:47:9
 pool-marked-requires : tie.Need-pool-marked-requires
 pool-marked-requires c κs = search needs
 
--- src/queued.rt:48:9
 unless-requires : tie.Need-unless-requires
 unless-requires c κs = search needs
 
--- src/queued.rt:51:29
 enum-told : tie.Need-enum-told
 enum-told c = search needs
 
--- src/queued.rt:53:17
 enum-told-2 : tie.Need-enum-told-2
 enum-told-2 c = search needs
 
--- src/queued.rt:54:13
 enter-queued-requires : tie.Need-enter-queued-requires
 enter-queued-requires c κs = search needs
 
--- src/queued.rt:36:1
 returns : tie.Need-returns
 unfolding auditQueuedBlock
 returns c = step-stop (unless-is _ _ _ _ _ (c .before .before .before .pool-marked .ensures) (c .before .before .unless .ensures _ _ _)) _ _ _ (c .enum-told .given .1)
 
--- src/queued.rt:36:1
 same-length : tie.Need-same-length
 same-length c = search needs
 
--- src/queued.rt:36:1
 returns-2 : tie.Need-returns-2
 unfolding auditQueuedBlock
-returns-2 c = step-then (unless-is _ _ _ _ _ (c .before .before .before .before .before .before .before .before .pool-marked .ensures) (c .before .before .before .before .before .before .before .unless .ensures _ _ _)) _ (c .before .before .before .before .before .enum-told2 .given .1) (c .before .before .enter-queued .ensures)
+returns-2 c = step-then (unless-is _ _ _ _ _ (c .before .before .before .before .before .before .before .before .pool-marked .ensures) (c .before .before .before .before .before .before .before .unless .ensures _ _ _)) _ (c .before .before .before .before .before .enum-told2 .given .1) (c .before .before .enter-queued .ensures _)
 
 pub audit-queued-block-spec : {M : Type 1} → statement M
 audit-queued-block-spec =

@@ -9,10 +9,6 @@ use native.Mathlib.Nat.{sub-zero, add-zero}
 use borrow.Author.Needs.{needs}
 use Rattle.audit.proofs.queued.audit_run.Statement.{statement}
 use Rattle.audit.proofs.queued.audit_run.Tie as tie
-use Rattle.audit.proofs.queued.audit_run.Reads as reads
-use Rattle.audit.proofs.queued.audit_run.Lts as lts
-use Rattle.audit.proofs.problems.done.Reads as done-reads
-use Rattle.audit.proofs.queued.audit_queued_block.Reads as audit-queued-block-reads
 
 abbrev Inv-loop : tie.InvT-loop
 Inv-loop image map₀ container p run found₀ i₀ map found i = (i ≤ run .count) × Reached (blockOf image (container .size)) (container .count) map₀ map (auditQueuedFrom container (poolAt image container p) (run .count - i) (run .start + i) (record { map = map; figures = found })) (auditQueuedFrom container (poolAt image container p) (run .count) (run .start) (record { map = map₀; figures = found₀ }))
@@ -20,55 +16,42 @@ Inv-loop image map₀ container p run found₀ i₀ map found i = (i ≤ run .co
 abbrev μ-loop : tie.MeasureT-loop
 μ-loop image map₀ container p run found₀ i₀ map found i = run .count - i
 
--- src/queued.rt:73:5
 loop-holds : tie.Need-loop-holds Inv-loop μ-loop
 loop-holds c = (search needs, reached-first _ _ _ _ _ (rw (sub-zero, add-zero) refl))
 
--- src/queued.rt:74:68
 add-audit-queued-block : tie.Need-add-audit-queued-block Inv-loop μ-loop
 add-audit-queued-block c = search needs
 
--- src/queued.rt:74:13
 audit-queued-block-requires : tie.Need-audit-queued-block-requires Inv-loop μ-loop
 audit-queued-block-requires c κs = search needs
 
--- src/queued.rt:77:33
 enum-told : tie.Need-enum-told Inv-loop μ-loop
 enum-told c = search needs
 
--- src/queued.rt:77:33
 returns : tie.Need-returns Inv-loop μ-loop
 returns c = reached-stop (c .before .before .before .before .before .before .before .before .before .loop .inv .1) (c .before .before .before .before .audit-queued-block .ensures) _ (queued-more _ _ _ _ _ _ (c .before .before .before .before .before .before .before .if1 .taken)) _ _ (c .enum-told .given .1)
 
--- src/queued.rt:77:33
 same-length : tie.Need-same-length Inv-loop μ-loop
 same-length c = returns c .kept .long
 
--- src/queued.rt:79:17
 enum-told-2 : tie.Need-enum-told-2 Inv-loop μ-loop
 enum-told-2 c = search needs
 
--- src/queued.rt:80:17
 add-i : tie.Need-add-i Inv-loop μ-loop
 add-i c = search needs
 
--- src/queued.rt:73:5
 loop-less : tie.Need-loop-less Inv-loop μ-loop
 loop-less c = search needs
 
--- src/queued.rt:73:5
 loop-again : tie.Need-loop-again Inv-loop μ-loop
 loop-again c = (search needs, reached-more (c .before .before .before .before .before .before .before .before .before .before .loop .inv .1) (c .before .before .before .before .before .audit-queued-block .ensures) _ (queued-more _ _ _ _ _ _ (c .before .before .before .before .before .before .before .before .if1 .taken)) (c .before .enum-told2 .given .1))
 
--- src/queued.rt:84:5
 done-requires : tie.Need-done-requires Inv-loop μ-loop
 done-requires c κs = search needs
 
--- src/queued.rt:60:1
 returns-2 : tie.Need-returns-2 Inv-loop μ-loop
 returns-2 c = reached-answer (c .before .before .before .loop .inv .1) _ _ (c .done .ensures) (queued-done _ _ _ _ _ _ (c .before .if1 .left))
 
--- src/queued.rt:60:1
 same-length-2 : tie.Need-same-length-2 Inv-loop μ-loop
 same-length-2 c = returns-2 c .kept .long
 

@@ -4,18 +4,13 @@ use native.Mathlib.Omega.{arith}
 use mathlib.Core.Path.{sym}
 use Rattle.audit.proofs.queued.has_run.Statement.{statement}
 use Rattle.audit.proofs.queued.has_run.Tie as tie
-use Rattle.audit.proofs.queued.has_run.Reads as reads
-use Rattle.audit.proofs.queued.has_run.Lts as lts
 
--- src/queued.rt:92:9
 returns : tie.Need-returns
 returns c = let a = c .before .before .before .args in sym (lt-leb (a .run .start + a .run .count) (a .container .count) (omega arith))
 
--- src/queued.rt:95:9
 returns-2 : tie.Need-returns-2
 returns-2 c = let a = c .before .before .before .before .before .before .before .args in sym (lt-leb (a .run .start + a .run .count) (a .container .count) (omega arith))
 
--- src/queued.rt:88:1
 returns-3 : tie.Need-returns-3
 returns-3 c = let a = c .before .before .before .before .before .before .before .args in sym (le-leb (a .run .start + a .run .count) (a .container .count) (omega arith))
 

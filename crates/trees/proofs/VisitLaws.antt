@@ -1,0 +1,53 @@
+-- Laws of what is done at an entry or a node, from the steps below.
+use mathlib.Core.Path.{_≡_, refl, sym, ap, _∙_}
+use mathlib.Core.List.{List}
+use Prim.Native.Nat.{ℕ}
+use Rattle.blocks.specs.Reads.{Reads, done, Outcome, given, refused, run, _>>=_}
+use Rattle.blocks.proofs.Laws.{then-given, then-refused}
+use Rattle.blocks.specs.declared.Refusal.{Refusal}
+use Rattle.block_map.specs.BlockMap.{Marked, Kept}
+use Rattle.block_map.proofs.Laws.{kept-same, kept-then}
+use Rattle.report.specs.Steps.{outcomeOf}
+use Rattle.report.specs.declared.Step.{Step}
+use Rattle.report.specs.declared.Step.the-variants.{Done, Refused}
+use Rattle.audit.specs.Answers.{Stepped}
+use Rattle.audit.proofs.Laws.{stepped-done, stepped-refused}
+use Rattle.trees.specs.declared.Figures.{Figures}
+use Rattle.trees.specs.declared.Visited.{Visited}
+
+-- a step whose figures are part of wider ones
+module _ {F G : Type 0} (f : ℕ → List ℕ) (up : Marked F → Marked G) (p : Reads (Marked F)) where
+  pub step-up : (step : Step) (s : Marked F) → outcomeOf step s ≡ run f p → outcomeOf step (up s) ≡ run f (p >>= λ t. done (up t))
+  unfolding run
+  step-up Done s e = sym (then-given f p _ s (sym e))
+  step-up (Refused r) s e = sym (then-refused f p _ r (sym e))
+
+-- the answers of the code that leave the map
+module _ {f : ℕ → List ℕ} {p : Reads (Marked Figures)} (count : ℕ) (map : List ℕ) (figures : Figures) (v : Visited) where
+  pub visit-refused : (r : Refusal) → v ≡ record { step = Refused r; figures = figures } → run f p ≡ refused r → Stepped f count (v .step) map map (v .figures) p
+  visit-refused r q e = rw q (record { goes = sym e; kept = kept-same count map })
+
+  pub visit-done : v ≡ record { step = Done; figures = figures } → run f p ≡ given (record { map = map; figures = figures }) → Stepped f count (v .step) map map (v .figures) p
+  visit-done q e = rw q (record { goes = sym e; kept = kept-same count map })
+
+-- a loop over entries or children, at its head: what is left gives the whole, and the bytes past the count are kept
+pub record Left {F : Type 0} (count : ℕ) (before map : List ℕ) (left whole : Outcome (Marked F)) : Type 0 where
+  pub goes : left ≡ whole
+  pub kept : Kept count before map
+
+module _ {F : Type 0} {f : ℕ → List ℕ} {count : ℕ} {before map : List ℕ} {left whole : Outcome (Marked F)} (h : Left count before map left whole) where
+  -- the next turn was a step
+  module _ {step : Step} {after : List ℕ} {figures : F} {p : Reads (Marked F)} (k : Stepped f count step map after figures p) where
+    pub left-more : {next : Outcome (Marked F)} → step ≡ Done → ((t : Marked F) → run f p ≡ given t → left ≡ next) → Left count before after next whole
+    left-more d e = record { goes = sym (e _ (stepped-done k d)) ∙ h .goes; kept = kept-then _ _ _ _ (h .kept) (k .kept) }
+
+    pub left-stop : (p′ : Reads (Marked F)) (r : Refusal) → step ≡ Refused r → (run f p ≡ refused r → left ≡ refused r) → whole ≡ run f p′ → Stepped f count step before after figures p′
+    left-stop p′ r d e w = record { goes = ap (λ (s : Step). outcomeOf s (record { map = after; figures = figures })) d ∙ sym (e (stepped-refused k r d)) ∙ h .goes ∙ w; kept = kept-then _ _ _ _ (h .kept) (k .kept) }
+
+-- a loop's end, and a refusal before its next turn, as the code answers them
+module _ {f : ℕ → List ℕ} {count : ℕ} {before map : List ℕ} {left whole : Outcome (Marked Figures)} (h : Left count before map left whole) (p : Reads (Marked Figures)) (w : whole ≡ run f p) (figures : Figures) (v : Visited) where
+  pub left-done : v ≡ record { step = Done; figures = figures } → left ≡ given (record { map = map; figures = figures }) → Stepped f count (v .step) before map (v .figures) p
+  left-done q e = rw q (record { goes = sym e ∙ h .goes ∙ w; kept = h .kept })
+
+  pub left-refused : (r : Refusal) → v ≡ record { step = Refused r; figures = figures } → left ≡ refused r → Stepped f count (v .step) before map (v .figures) p
+  left-refused r q e = rw q (record { goes = sym e ∙ h .goes ∙ w; kept = h .kept })
