@@ -27,13 +27,13 @@ pub record Stepped {F : Type 0} (f : ℕ → List ℕ) (count : ℕ) (step : Ste
   pub goes : outcomeOf step (record { map = after; figures = figures }) ≡ run f defined
   pub kept : Kept count before after
 
--- the pool that stands at p
-abbrev pub poolAt : List ℕ → Container → PoolPlace → Pool
-poolAt image c p = poolIn (blockOf image (c .size)) (c .size) p
-
 -- the same of a step over an image that has a container
 abbrev pub Audits : List ℕ → Container → Audited → List ℕ → List ℕ → Reads (Marked Audit) → Type 0
 Audits image c r before after defined = Stepped (blockOf image (c .size)) (c .count) (r .step) before after (r .audit) defined
+
+-- the pool whose place is p
+abbrev pub poolAt : List ℕ → Container → PoolPlace → Pool
+poolAt image c p = poolIn (blockOf image (c .size)) (c .size) p
 
 -- the block of a set bit marked
 unfoldable pub markSet : Container → ℕ → ℕ → Marked ℕ → Reads (Marked ℕ)

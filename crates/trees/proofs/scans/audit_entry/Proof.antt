@@ -1,0 +1,24 @@
+use Rattle.trees.specs.Visits.{visitFor, withAudit}
+use Rattle.trees.proofs.VisitLaws.{step-up}
+use borrow.Author.Needs.{needs}
+use Rattle.trees.proofs.scans.audit_entry.Statement.{statement}
+use Rattle.trees.proofs.scans.audit_entry.Tie as tie
+use Rattle.trees.proofs.scans.audit_entry.Reads as reads
+use Rattle.trees.proofs.scans.audit_entry.Lts as lts
+use Rattle.audit.proofs.queued.audit_queued.Reads as audit-queued-reads
+
+-- src/scans.rt:52:9
+audit-queued-requires : tie.Need-audit-queued-requires
+audit-queued-requires c κs = search needs
+
+-- src/scans.rt:37:1
+same-length : tie.Need-same-length
+same-length c = c .before .before .before .audit-queued .ensures .kept .long
+
+-- src/scans.rt:37:1
+returns : tie.Need-returns
+unfolding visitFor
+returns c = record { goes = step-up _ (withAudit (c .before .before .before .before .before .overlaps .value)) _ _ _ (c .before .before .before .audit-queued .ensures .goes); kept = c .before .before .before .audit-queued .ensures .kept }
+
+pub audit-entry-spec : {M : Type 1} → statement M
+audit-entry-spec = tie.close (tie.spec audit-queued-requires same-length returns)
