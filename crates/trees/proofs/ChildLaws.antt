@@ -3,9 +3,9 @@ use mathlib.Core.Path.{_≡_, refl, sym, ap, _∙_}
 use mathlib.Core.List.{List}
 use Prim.Native.Nat.{ℕ, suc, _+_, _-_, _≤_, _<_}
 use native.Mathlib.Omega.{arith}
-use borrow.Author.Tests.{eq-eqb, ne-eqb}
+use borrow.Author.Tests.{eq-eqb, ne-eqb, eqb-true}
 use Rattle.blocks.specs.Reads.{Reads, Outcome, given, refused, run, noBlocks, _>>=_}
-use Rattle.blocks.proofs.Laws.{then-given, then-refused, need-true, need-false}
+use Rattle.blocks.proofs.Laws.{then-given, then-refused, need-true, need-false, need-held, both}
 use Rattle.blocks.specs.declared.Refusal.{Refusal}
 use Rattle.blocks.specs.declared.Refusal.the-variants.{WrongLevel}
 use Rattle.nodes.specs.Node.{Entry, levelOf, entry, pointer}
@@ -81,3 +81,11 @@ module _ (f : ℕ → List ℕ) (level : ℕ) (n : List ℕ) (l : ℕ) (is : l �
   pub below-other : (l + 1 ≡ level → ⊥) → run f (oneBelow level n) ≡ refused WrongLevel
   unfolding oneBelow
   below-other e = need-false f _ _ _ (ne-eqb (levelOf n + 1) level (λ q. e (rw is q)))
+
+-- a child that was read is one level below its parent, which is therefore not at level 0
+pub child-level : (f : ℕ → List ℕ) (d : Description) (child : ℕ → Reads (List ℕ)) (level : ℕ) (b : List ℕ) (left i : ℕ) (m : List ℕ) → run f (childBelow d child level b left i) ≡ given m → 0 < level
+unfolding childBelow oneBelow
+child-level f d child level b left i m e =
+    let read = both f (pointerPast d b left i) _ m e in
+    let there = both f (child (read .first)) _ m (read .rest) in
+    let held : levelOf (there .first) + 1 ≡ level = eqb-true _ _ (need-held f _ _ _ m (there .rest) .0) in omega arith

@@ -31,11 +31,15 @@ bind-cong f (done a) g h e = e a
 bind-cong f (refuse r) g h e = refl
 bind-cong f (read n k) g h e = bind-cong f (k (f n)) g h e
 
+pub pred-less : (n : ℕ) → pred n ≡ n - 1
+pred-less zero = refl
+pred-less (suc n) = omega arith
+
 module _ {S : Type 0} (f : ℕ → List ℕ) (visit : S → Entry → Reads S) (d : Description) (child : ℕ → Reads (List ℕ)) where
-  abbrev leafLeft : List ℕ → ℕ → ℕ → S → Outcome S
+  abbrev pub leafLeft : List ℕ → ℕ → ℕ → S → Outcome S
   leafLeft b left i s = run f (leafFrom visit d child b left i s)
 
-  abbrev indexLeft : ℕ → List ℕ → ℕ → ℕ → S → Outcome S
+  abbrev pub indexLeft : ℕ → List ℕ → ℕ → ℕ → S → Outcome S
   indexLeft level b left i s = run f (indexFrom visit d child (below visit d child level) b left i s)
 
   -- a child, and what follows it
@@ -82,15 +86,16 @@ module _ {S : Type 0} (f : ℕ → List ℕ) (visit : S → Entry → Reads S) (
       pub index-refused : (r : Refusal) → run f (childBelow d child level b (n - (i + 1)) i) ≡ refused r → indexLeft level b (n - i) i s ≡ refused r
       index-refused r e = rw one-less (index-step level (n - (i + 1)) i b s ∙ then-refused f _ _ r e)
 
-      module _ (m : List ℕ) (e : run f (childBelow d child level b (n - (i + 1)) i) ≡ given m) where
-        down : indexLeft level b (n - i) i s ≡ run f (scanNode visit d child (below visit d child (pred level)) m s >>= indexFrom visit d child (below visit d child level) b (n - (i + 1)) (i + 1))
-        down = rw one-less (index-step level (n - (i + 1)) i b s ∙ then-given f _ _ m e)
+      -- l is the child's level
+      module _ (m : List ℕ) (e : run f (childBelow d child level b (n - (i + 1)) i) ≡ given m) (l : ℕ) (q : pred level ≡ l) where
+        down : indexLeft level b (n - i) i s ≡ run f (scanNode visit d child (below visit d child l) m s >>= indexFrom visit d child (below visit d child level) b (n - (i + 1)) (i + 1))
+        down = rw (one-less, ← q) (index-step level (n - (i + 1)) i b s ∙ then-given f _ _ m e)
 
-        pub index-stops : (r : Refusal) → run f (scanNode visit d child (below visit d child (pred level)) m s) ≡ refused r → indexLeft level b (n - i) i s ≡ refused r
-        index-stops r q = down ∙ then-refused f _ _ r q
+        pub index-stops : (r : Refusal) → run f (scanNode visit d child (below visit d child l) m s) ≡ refused r → indexLeft level b (n - i) i s ≡ refused r
+        index-stops r p = down ∙ then-refused f _ _ r p
 
-        pub index-more : (t : S) → run f (scanNode visit d child (below visit d child (pred level)) m s) ≡ given t → indexLeft level b (n - i) i s ≡ indexLeft level b (n - (i + 1)) (i + 1) t
-        index-more t q = down ∙ then-given f _ _ t q
+        pub index-more : (t : S) → run f (scanNode visit d child (below visit d child l) m s) ≡ given t → indexLeft level b (n - i) i s ≡ indexLeft level b (n - (i + 1)) (i + 1) t
+        index-more t p = down ∙ then-given f _ _ t p
 
   -- the entries of a leaf from the i-th of n on
   module _ (b : List ℕ) (n i : ℕ) (s : S) where

@@ -10,17 +10,27 @@ use Rattle.block_map.proofs.Laws.{kept-same, kept-then}
 use Rattle.report.specs.Steps.{outcomeOf}
 use Rattle.report.specs.declared.Step.{Step}
 use Rattle.report.specs.declared.Step.the-variants.{Done, Refused}
+use Rattle.report.specs.declared.OverlapLog.{OverlapLog}
 use Rattle.audit.specs.Answers.{Stepped}
+use Rattle.claims.specs.Answers.{ClaimedAs}
+use Rattle.claims.specs.declared.Claimed.{Claimed}
 use Rattle.audit.proofs.Laws.{stepped-done, stepped-refused}
 use Rattle.trees.specs.declared.Figures.{Figures}
 use Rattle.trees.specs.declared.Visited.{Visited}
 
 -- a step whose figures are part of wider ones
-module _ {F G : Type 0} (f : ℕ → List ℕ) (up : Marked F → Marked G) (p : Reads (Marked F)) where
-  pub step-up : (step : Step) (s : Marked F) → outcomeOf step s ≡ run f p → outcomeOf step (up s) ≡ run f (p >>= λ t. done (up t))
-  unfolding run
-  step-up Done s e = sym (then-given f p _ s (sym e))
-  step-up (Refused r) s e = sym (then-refused f p _ r (sym e))
+pub wider : {F G : Type 0} {f : ℕ → List ℕ} {count : ℕ} {step : Step} {before after : List ℕ} {figures : F} {p : Reads (Marked F)} (g : F → G)
+    → Stepped f count step before after figures p → Stepped f count step before after (g figures) (p >>= λ t. done (record { map = t .map; figures = g (t .figures) }))
+unfolding run
+wider {F} {G} {f} {count} {step} {before} {after} {figures} {p} g h = record { goes = go step (h .goes); kept = h .kept }
+  where
+    go : (s : Step) → outcomeOf {A = Marked F} s (record { map = after; figures = figures }) ≡ run f p → outcomeOf {A = Marked G} s (record { map = after; figures = g figures }) ≡ run f (p >>= λ t. done (record { map = t .map; figures = g (t .figures) }))
+    go Done e = sym (then-given f p _ _ (sym e))
+    go (Refused r) e = sym (then-refused f p _ r (sym e))
+
+-- a claim, as a step over an image
+pub claimed-step : (f : ℕ → List ℕ) {count : ℕ} {r : Claimed} {before after : List ℕ} {p : Reads (Marked OverlapLog)} → ClaimedAs count r before after p → Stepped f count (r .step) before after (r .log) p
+claimed-step f h = record { goes = h .outcome f; kept = h .kept }
 
 -- the answers of the code that leave the map
 module _ {f : ℕ → List ℕ} {p : Reads (Marked Figures)} (count : ℕ) (map : List ℕ) (figures : Figures) (v : Visited) where
@@ -38,8 +48,8 @@ pub record Left {F : Type 0} (count : ℕ) (before map : List ℕ) (left whole :
 module _ {F : Type 0} {f : ℕ → List ℕ} {count : ℕ} {before map : List ℕ} {left whole : Outcome (Marked F)} (h : Left count before map left whole) where
   -- the next turn was a step
   module _ {step : Step} {after : List ℕ} {figures : F} {p : Reads (Marked F)} (k : Stepped f count step map after figures p) where
-    pub left-more : {next : Outcome (Marked F)} → step ≡ Done → ((t : Marked F) → run f p ≡ given t → left ≡ next) → Left count before after next whole
-    left-more d e = record { goes = sym (e _ (stepped-done k d)) ∙ h .goes; kept = kept-then _ _ _ _ (h .kept) (k .kept) }
+    pub left-more : {next : Outcome (Marked F)} → step ≡ Done → (run f p ≡ given (record { map = after; figures = figures }) → left ≡ next) → Left count before after next whole
+    left-more d e = record { goes = sym (e (stepped-done k d)) ∙ h .goes; kept = kept-then _ _ _ _ (h .kept) (k .kept) }
 
     pub left-stop : (p′ : Reads (Marked F)) (r : Refusal) → step ≡ Refused r → (run f p ≡ refused r → left ≡ refused r) → whole ≡ run f p′ → Stepped f count step before after figures p′
     left-stop p′ r d e w = record { goes = ap (λ (s : Step). outcomeOf s (record { map = after; figures = figures })) d ∙ sym (e (stepped-refused k r d)) ∙ h .goes ∙ w; kept = kept-then _ _ _ _ (h .kept) (k .kept) }

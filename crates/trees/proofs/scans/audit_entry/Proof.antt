@@ -1,5 +1,7 @@
-use Rattle.trees.specs.Visits.{visitFor, withAudit}
-use Rattle.trees.proofs.VisitLaws.{step-up}
+use Rattle.audit.specs.declared.Audit.{Audit}
+use Rattle.trees.specs.declared.Figures.{Figures}
+use Rattle.trees.specs.Visits.{visitFor}
+use Rattle.trees.proofs.VisitLaws.{wider, claimed-step}
 use borrow.Author.Needs.{needs}
 use Rattle.trees.proofs.scans.audit_entry.Statement.{statement}
 use Rattle.trees.proofs.scans.audit_entry.Tie as tie
@@ -18,7 +20,7 @@ same-length c = c .before .before .before .audit-queued .ensures .kept .long
 -- src/scans.rt:37:1
 returns : tie.Need-returns
 unfolding visitFor
-returns c = record { goes = step-up _ (withAudit (c .before .before .before .before .before .overlaps .value)) _ _ _ (c .before .before .before .audit-queued .ensures .goes); kept = c .before .before .before .audit-queued .ensures .kept }
+returns c = wider (λ (a : Audit). record { audit = a; overlaps = c .before .before .before .before .before .before .before .before .before .before .before .before .before .args .figures .overlaps }) (c .before .before .before .audit-queued .ensures)
 
 pub audit-entry-spec : {M : Type 1} → statement M
 audit-entry-spec = tie.close (tie.spec audit-queued-requires same-length returns)

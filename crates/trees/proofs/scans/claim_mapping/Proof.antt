@@ -1,5 +1,7 @@
-use Rattle.trees.specs.Visits.{visitFor, withOverlaps}
-use Rattle.trees.proofs.VisitLaws.{step-up}
+use Rattle.report.specs.declared.OverlapLog.{OverlapLog}
+use Rattle.trees.specs.declared.Figures.{Figures}
+use Rattle.trees.specs.Visits.{visitFor}
+use Rattle.trees.proofs.VisitLaws.{wider, claimed-step}
 use borrow.Author.Needs.{needs}
 use Rattle.trees.proofs.scans.claim_mapping.Statement.{statement}
 use Rattle.trees.proofs.scans.claim_mapping.Tie as tie
@@ -18,7 +20,7 @@ same-length c = search needs
 -- src/scans.rt:81:1
 returns : tie.Need-returns
 unfolding visitFor
-returns c = ?
+returns c = wider (λ (o : OverlapLog). record { audit = c .before .before .before .before .before .before .before .before .before .before .before .before .args .figures .audit; overlaps = o }) (claimed-step _ (c .before .before .before .claim-mapping .ensures))
 
 pub claim-mapping-spec : {M : Type 1} → statement M
 claim-mapping-spec = tie.close (tie.spec claim-mapping-requires same-length returns)

@@ -33,27 +33,27 @@ claim-entry-requires c κs = search needs
 
 -- src/scans.rt:103:1
 same-length : tie.Need-same-length
-same-length c = search needs
+same-length c = c .before .before .audit-entry .ensures .kept .long
 
 -- src/scans.rt:103:1
 returns : tie.Need-returns
-returns c = ?
+returns c = rw (c .before .before .before .before .enum-told .given .1) (c .before .before .audit-entry .ensures)
 
 -- src/scans.rt:103:1
 same-length-2 : tie.Need-same-length-2
-same-length-2 c = search needs
+same-length-2 c = c .before .before .claim-mapping .ensures .kept .long
 
 -- src/scans.rt:103:1
 returns-2 : tie.Need-returns-2
-returns-2 c = ?
+returns-2 c = rw (c .before .before .before .before .enum-told2 .given .1) (c .before .before .claim-mapping .ensures)
 
 -- src/scans.rt:103:1
 same-length-3 : tie.Need-same-length-3
-same-length-3 c = search needs
+same-length-3 c = c .before .before .claim-entry .ensures .kept .long
 
 -- src/scans.rt:103:1
 returns-3 : tie.Need-returns-3
-returns-3 c = ?
+returns-3 c = rw (c .before .before .before .before .enum-told3 .given .1) (c .before .before .claim-entry .ensures)
 
 pub visit-spec : {M : Type 1} → statement M
 visit-spec =
