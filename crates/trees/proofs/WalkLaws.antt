@@ -1,22 +1,36 @@
 -- Laws of physical walks.
-use mathlib.Core.Path.{_≡_, refl, sym, ap, _∙_}
-use mathlib.Core.Bool.{Bool, true, false}
+use mathlib.Core.Path.{_≡_, refl, sym, _∙_}
+use mathlib.Core.Logic.{_≢_}
+use mathlib.Core.Bool.{true, false}
 use mathlib.Core.List.{List, [], _∷_}
-use Prim.Native.Nat.{ℕ, zero, suc, _+_, _-_, _≤_, _<_, pred}
+use Prim.Native.Nat.{ℕ, suc, _+_, _-_, _<_, pred}
 use native.Mathlib.Numerals.{add-one}
 use native.Mathlib.Omega.{arith}
-use lib.Dec.{ltb}
 use borrow.Author.Tests.{lt-ltb, le-ltb}
-use Rattle.blocks.specs.Reads.{Reads, done, Outcome, given, refused, run, noBlocks, _>>=_, need}
+use Rattle.blocks.specs.Reads.{Reads, done, Outcome, given, refused, run, noBlocks, _>>=_}
 use Rattle.blocks.proofs.Laws.{then-given, then-refused, need-true, need-false}
 use Rattle.blocks.specs.declared.Address.{Address}
 use Rattle.blocks.specs.declared.Container.{Container}
 use Rattle.blocks.specs.declared.Refusal.{Refusal}
 use Rattle.blocks.specs.declared.Refusal.the-variants.{TooManyNodes}
 use Rattle.nodes.specs.Node.{isLeaf, keyCount, entry, pointer, readNode}
-use Rattle.nodes.specs.Walk.{Walked, childrenFrom, each, walkBelow}
+use Rattle.nodes.specs.Walk.{Walked, childrenFrom, each, walkBelow, mostLevels, walk}
 use Rattle.nodes.specs.declared.Description.{Description}
 use Rattle.trees.specs.Walks.{pointerOf, pointerAt, pointersDown, childrenOf, alongWay}
+use Rattle.blocks.specs.Blocks.{blockOf}
+use Rattle.block_map.specs.BlockMap.{Marked, Kept}
+use Rattle.block_map.proofs.Laws.{kept-same, kept-then}
+use Rattle.report.specs.declared.OverlapLog.{OverlapLog}
+use Rattle.report.specs.Steps.{outcomeOf}
+use Rattle.report.specs.declared.Step.{Step}
+use Rattle.report.specs.declared.Step.the-variants.{Done, Refused}
+use Rattle.claims.specs.Claims.{claimNode}
+use Rattle.claims.specs.Answers.{owned, ClaimedAs}
+use Rattle.claims.specs.declared.Claimed.{Claimed}
+use Rattle.claims.proofs.Laws.{claim-given, claim-refused}
+use Rattle.trees.specs.Answers.{walked, WayOf, Enters, Walks, WalksWhole}
+use Rattle.trees.specs.declared.Entered.{Entered}
+use Rattle.trees.specs.declared.Walked as code
 use Rattle.trees.specs.declared.Way.{Way}
 use Rattle.trees.specs.declared.Way.the-variants as way
 use Rattle.trees.proofs.ScanLaws.{bind-assoc}
@@ -111,3 +125,106 @@ module _ {S : Type 0} (f : ℕ → List ℕ) (visit : S → Address → Reads S)
       pub way-index : run f (childrenFrom d b (keyCount b) 0 []) ≡ given (pointersDown d b (keyCount b)) → run f (childrenOf visit c d levels b w) ≡ alongWay visit c d f levels b way.Index w
       unfolding childrenOf alongWay
       way-index k = rw l (then-given f _ _ _ k)
+
+-- how a walk ended
+module _ (image : List ℕ) (c : Container) (before after : List ℕ) (k : Kept (c .count) before after) (defined : Reads (Walked (Marked OverlapLog))) (r : code.Walked) where
+  pub walks-stopped : (x : Refusal) → run (blockOf image (c .size)) defined ≡ refused x → r .step ≡ Refused x → Walks image c r before after defined
+  walks-stopped x e s = record { goes = rw s (sym e); kept = k }
+
+  module _ (left : ℕ) (log : OverlapLog) where
+    pub walks-refused : (x : Refusal) → run (blockOf image (c .size)) defined ≡ refused x → r ≡ record { step = Refused x; left = left; log = log } → Walks image c r before after defined
+    walks-refused x e is = walks-stopped x e (rw is refl)
+
+    pub walks-done : run (blockOf image (c .size)) defined ≡ given (walked after left log) → r ≡ record { step = Done; left = left; log = log } → Walks image c r before after defined
+    walks-done e is = rw is (record { goes = sym e; kept = k })
+
+-- a node that a walk comes to
+module _ (image : List ℕ) (c : Container) (d : Description) (a : ℕ) (before : List ℕ) (log : OverlapLog) where
+  abbrev inImage : ℕ → List ℕ
+  inImage = blockOf image (c .size)
+
+  pub enters-unread : (r : Refusal) → run inImage (readNode c (record { 0 = a })) ≡ refused r → (e : Entered) → e ≡ record { way = way.Refused r; log = log } → Enters image c d a e before before log
+  unfolding alongWay
+  enters-unread r q e is = rw is (record { goes = λ levels left h. sym (walk-unread inImage (claimNode c) c d levels a (walked before left log) h r q); kept = kept-same _ _ })
+
+  module _ (q : run inImage (readNode c (record { 0 = a })) ≡ given (inImage a)) (after : List ℕ) (r : Claimed) (h : ClaimedAs (c .count) r before after (claimNode c (owned before log) (record { 0 = a }))) where
+    pub enters-refused : (x : Refusal) → r .step ≡ Refused x → (e : Entered) → e ≡ record { way = way.Refused x; log = r .log } → Enters image c d a e before after log
+    unfolding alongWay
+    enters-refused x p e is = rw is (record { goes = λ levels left k. sym (walk-stops inImage (claimNode c) c d levels a (walked before left log) k _ q x (claim-refused _ r before after _ h inImage x p)); kept = h .kept })
+
+    pub enters-claimed : r .step ≡ Done → (b : List ℕ) → b ≡ inImage a → (w : Way) → WayOf d b w → Enters image c d a (record { way = w; log = r .log }) before after log
+    enters-claimed p b is w way = record { goes = λ levels left k. (rw is at way) inImage c levels _ ∙ sym (walk-visited inImage (claimNode c) c d levels a (walked before left log) k _ q _ (claim-given _ r before after _ h inImage p)); kept = h .kept }
+
+  -- a node where one more level and one more node may come
+  module _ (levels left : ℕ) where
+    abbrev pub nodeBelow : Reads (Walked (Marked OverlapLog))
+    nodeBelow = walkBelow (claimNode c) c d levels a (walked before left log)
+
+    pub below-deep : levels ≡ 0 → run inImage nodeBelow ≡ refused TooManyNodes
+    below-deep e = rw e (walk-deep inImage (claimNode c) c d 0 a (walked before left log))
+
+    module _ (deeper : levels ≢ 0) where
+      one-more : levels ≡ suc (levels - 1)
+      one-more = omega arith
+
+      pub below-many : left ≡ 0 → run inImage nodeBelow ≡ refused TooManyNodes
+      below-many e = go levels one-more
+        where
+          go : (n : ℕ) → n ≡ suc (levels - 1) → run inImage (walkBelow (claimNode c) c d n a (walked before left log)) ≡ refused TooManyNodes
+          go n p = rw p (walk-many inImage (claimNode c) c d (levels - 1) a (walked before left log) e)
+
+      module _ (more : left ≢ 0) (e : Entered) (after : List ℕ) (h : Enters image c d a e before after log) where
+        below-entered : run inImage nodeBelow ≡ alongWay (claimNode c) c d inImage (levels - 1) (inImage a) (e .way) (walked after (left - 1) (e .log))
+        below-entered = go levels one-more
+          where
+            p : pred left ≡ left - 1
+            p = omega arith
+
+            go : (n : ℕ) → n ≡ suc (levels - 1) → run inImage (walkBelow (claimNode c) c d n a (walked before left log)) ≡ alongWay (claimNode c) c d inImage (levels - 1) (inImage a) (e .way) (walked after (left - 1) (e .log))
+            go n q = rw (q, ← p) (sym (h .goes (levels - 1) left (omega arith)))
+
+        pub below-refused : (x : Refusal) → e .way ≡ way.Refused x → run inImage nodeBelow ≡ refused x
+        unfolding alongWay
+        below-refused x w = below-entered ∙ rw w refl
+
+        pub below-leaf : e .way ≡ way.Leaf → run inImage nodeBelow ≡ given (walked after (left - 1) (e .log))
+        unfolding alongWay
+        below-leaf w = below-entered ∙ rw w refl
+
+        pub below-index : e .way ≡ way.Index → (b : List ℕ) → b ≡ inImage a → (k : ℕ) → k ≡ keyCount b → run inImage nodeBelow ≡ eachLeft inImage (claimNode c) c d (levels - 1) b k (walked after (left - 1) (e .log))
+        unfolding alongWay
+        below-index w b is k n = below-entered ∙ rw (w, n, is) refl
+
+-- the children of a node from the last of k down: what is left of them is the whole
+pub record Left (image : List ℕ) (c : Container) (d : Description) (levels : ℕ) (b before : List ℕ) (whole : Outcome (Walked (Marked OverlapLog))) (map : List ℕ) (left : ℕ) (log : OverlapLog) (k : ℕ) : Type 0 where
+  pub kept : Kept (c .count) before map
+  pub rest : eachLeft (blockOf image (c .size)) (claimNode c) c d levels b k (walked map left log) ≡ whole
+
+module _ (image : List ℕ) (c : Container) (d : Description) (levels : ℕ) (b before : List ℕ) (whole : Outcome (Walked (Marked OverlapLog))) (map : List ℕ) (left : ℕ) (log : OverlapLog) (k : ℕ) (here : Left image c d levels b before whole map left log k) where
+  pub left-done : k ≡ 0 → whole ≡ given (walked map left log)
+  left-done e = sym (here .rest) ∙ each-done (blockOf image (c .size)) (claimNode c) c d levels b k _ e
+
+  module _ (h : 0 < k) (a : ℕ) (is : a ≡ pointerAt d b (k - 1)) (r : code.Walked) (after : List ℕ) (one : Walks image c r map after (walkBelow (claimNode c) c d levels a (walked map left log))) where
+    pub left-kept : Kept (c .count) before after
+    left-kept = kept-then _ before map after (here .kept) (one .kept)
+
+    pub left-refused : (x : Refusal) → r .step ≡ Refused x → whole ≡ refused x
+    left-refused x e = sym (here .rest) ∙ each-refused (blockOf image (c .size)) (claimNode c) c d levels b k _ h x (rw (← is) (sym (one .goes) ∙ rw e refl))
+
+    pub left-more : r .step ≡ Done → Left image c d levels b before whole after (r .left) (r .log) (k - 1)
+    left-more e = record { kept = left-kept; rest = sym (each-more (blockOf image (c .size)) (claimNode c) c d levels b k _ h (walked after (r .left) (r .log)) (rw (← is) (sym (one .goes) ∙ rw e refl))) ∙ here .rest }
+
+-- a whole walk, once all nodes below its root are visited
+pub walks-whole : (image : List ℕ) (c : Container) (d : Description) (root : Address) (before after : List ℕ) (log : OverlapLog) (r : code.Walked) → Walks image c r before after (walkBelow (claimNode c) c d mostLevels (root .0) (walked before (c .count) log)) → WalksWhole image c (record { step = r .step; log = r .log }) before after (walk (claimNode c) c d root (owned before log))
+unfolding run walk
+walks-whole image c d root before after log r h = record { goes = go (r .step) (h .goes); kept = h .kept }
+  where
+    f : ℕ → List ℕ
+    f = blockOf image (c .size)
+
+    below : Reads (Walked (Marked OverlapLog))
+    below = walkBelow (claimNode c) c d mostLevels (root .0) (walked before (c .count) log)
+
+    go : (s : Step) → outcomeOf s (walked after (r .left) (r .log)) ≡ run f below → outcomeOf s (owned after (r .log)) ≡ run f (below >>= λ w. done (w .state))
+    go Done e = sym (then-given f below _ _ (sym e))
+    go (Refused x) e = sym (then-refused f below _ x (sym e))

@@ -1,0 +1,49 @@
+use Rattle.trees.proofs.WalkLaws.{enters-refused, enters-claimed}
+use borrow.Author.Needs.{needs}
+use Rattle.trees.proofs.walks.claim_entered.Statement.{statement}
+use Rattle.trees.proofs.walks.claim_entered.Tie as tie
+
+claim-node-requires : tie.Need-claim-node-requires
+claim-node-requires c κs = search needs
+
+enum-known-step : tie.Need-enum-known-step
+enum-known-step c = search needs
+
+refused-requires : tie.Need-refused-requires
+refused-requires c κs = search needs
+
+enum-told : tie.Need-enum-told
+enum-told c = search needs
+
+block-requires : tie.Need-block-requires
+block-requires c κs = search needs
+
+way-of-requires : tie.Need-way-of-requires
+way-of-requires c κs = search needs
+
+same-length : tie.Need-same-length
+same-length c = search needs
+
+returns : tie.Need-returns
+returns c = λ q. enters-refused _ _ _ _ _ _ q _ _ (c .before .before .before .before .before .before .before .claim-node .ensures) _ (c .before .before .step .given .1) _ (c .refused .ensures)
+
+same-length-2 : tie.Need-same-length-2
+same-length-2 c = search needs
+
+returns-2 : tie.Need-returns-2
+returns-2 c = λ q. enters-claimed _ _ _ _ _ _ q _ _ (c .before .before .before .before .before .before .before .claim-node .ensures) (c .before .before .enum-told .given .1) _ (c .before .block .ensures) _ (c .way-of .ensures)
+
+pub claim-entered-spec : {M : Type 1} → statement M
+claim-entered-spec =
+    tie.close
+    (tie.spec
+    claim-node-requires
+    enum-known-step
+    refused-requires
+    enum-told
+    block-requires
+    way-of-requires
+    same-length
+    returns
+    same-length-2
+    returns-2)

@@ -1,0 +1,16 @@
+use Rattle.trees.proofs.WalkLaws.{walks-whole}
+use borrow.Author.Needs.{needs}
+use Rattle.trees.proofs.walks.walk.Statement.{statement}
+use Rattle.trees.proofs.walks.walk.Tie as tie
+
+walk-below-requires : tie.Need-walk-below-requires
+walk-below-requires c κs = search needs
+
+same-length : tie.Need-same-length
+same-length c = search needs
+
+returns : tie.Need-returns
+returns c = walks-whole _ _ _ _ _ _ _ _ (c .before .before .before .walk-below .ensures)
+
+pub walk-spec : {M : Type 1} → statement M
+walk-spec = tie.close (tie.spec walk-below-requires same-length returns)
