@@ -1,10 +1,10 @@
 -- Laws of the children of a node.
-use mathlib.Core.Path.{_≡_, refl, sym, ap, _∙_}
+use mathlib.Core.Path.{_≡_, refl, _∙_}
 use mathlib.Core.List.{List}
 use Prim.Native.Nat.{ℕ, suc, _+_, _-_, _≤_, _<_}
 use native.Mathlib.Omega.{arith}
 use borrow.Author.Tests.{eq-eqb, ne-eqb, eqb-true}
-use Rattle.blocks.specs.Reads.{Reads, Outcome, given, refused, run, noBlocks, _>>=_}
+use Rattle.blocks.specs.Reads.{Reads, given, refused, run, noBlocks, _>>=_}
 use Rattle.blocks.proofs.Laws.{then-given, then-refused, need-true, need-false, need-held, both}
 use Rattle.blocks.specs.declared.Refusal.{Refusal}
 use Rattle.blocks.specs.declared.Refusal.the-variants.{WrongLevel}

@@ -3,3 +3,4 @@ pub mod ChildLaws
 pub mod ScanLaws
 pub mod WalkLaws
 pub mod VisitLaws
+pub mod QueueLaws

@@ -1,5 +1,5 @@
 -- Laws of scans: their loops, and that the purpose leaves the other figures as they were.
-use mathlib.Core.Path.{_≡_, refl, sym, ap, _∙_}
+use mathlib.Core.Path.{_≡_, refl, sym, _∙_}
 use mathlib.Core.Bool.{Bool, true, false}
 use mathlib.Core.List.{List}
 use Prim.Native.Nat.{ℕ, zero, suc, _+_, _-_, _≤_, _<_, pred}
@@ -147,7 +147,7 @@ module _ {S T : Type 0} (f : ℕ → List ℕ) (up : S → T) where
       go (refused r) = refl
 
   -- the same steps before both
-  wider-after : {A : Type 0} (p : Reads A) (g : A → Reads S) (h : A → Reads T) → ((a : A) → run f (h a) ≡ mapped up (run f (g a))) → run f (p >>= h) ≡ mapped up (run f (p >>= g))
+  pub wider-after : {A : Type 0} (p : Reads A) (g : A → Reads S) (h : A → Reads T) → ((a : A) → run f (h a) ≡ mapped up (run f (g a))) → run f (p >>= h) ≡ mapped up (run f (p >>= g))
   unfolding run _>>=_
   wider-after (done a) g h e = e a
   wider-after (refuse r) g h e = refl

@@ -1,7 +1,8 @@
 -- Laws of what is done at an entry or a node, from the steps below.
-use mathlib.Core.Path.{_≡_, refl, sym, ap, _∙_}
+use mathlib.Core.Path.{_≡_, sym, ap, _∙_}
 use mathlib.Core.List.{List}
 use Prim.Native.Nat.{ℕ}
+use native.Mathlib.Omega.{arith}
 use Rattle.blocks.specs.Reads.{Reads, done, Outcome, given, refused, run, _>>=_}
 use Rattle.blocks.proofs.Laws.{then-given, then-refused}
 use Rattle.blocks.specs.declared.Refusal.{Refusal}
@@ -15,6 +16,7 @@ use Rattle.audit.specs.Answers.{Stepped}
 use Rattle.claims.specs.Answers.{ClaimedAs}
 use Rattle.claims.specs.declared.Claimed.{Claimed}
 use Rattle.audit.proofs.Laws.{stepped-done, stepped-refused}
+use Rattle.trees.proofs.ScanLaws.{mapped}
 use Rattle.trees.specs.declared.Figures.{Figures}
 use Rattle.trees.specs.declared.Visited.{Visited}
 
@@ -31,6 +33,10 @@ wider {F} {G} {f} {count} {step} {before} {after} {figures} {p} g h = record { g
 -- a claim, as a step over an image
 pub claimed-step : (f : ℕ → List ℕ) {count : ℕ} {r : Claimed} {before after : List ℕ} {p : Reads (Marked OverlapLog)} → ClaimedAs count r before after p → Stepped f count (r .step) before after (r .log) p
 claimed-step f h = record { goes = h .outcome f; kept = h .kept }
+
+-- a step of another pass that comes to the same
+pub same-run : {F : Type 0} {f : ℕ → List ℕ} {count : ℕ} {step : Step} {before after : List ℕ} {figures : F} {p : Reads (Marked F)} (q : Reads (Marked F)) → Stepped f count step before after figures p → run f p ≡ run f q → Stepped f count step before after figures q
+same-run q h e = record { goes = h .goes ∙ e; kept = h .kept }
 
 -- the answers of the code that leave the map
 module _ {f : ℕ → List ℕ} {p : Reads (Marked Figures)} (count : ℕ) (map : List ℕ) (figures : Figures) (v : Visited) where
@@ -61,3 +67,16 @@ module _ {f : ℕ → List ℕ} {count : ℕ} {before map : List ℕ} {left whol
 
   pub left-refused : (r : Refusal) → v ≡ record { step = Refused r; figures = figures } → left ≡ refused r → Stepped f count (v .step) before map (v .figures) p
   left-refused r q e = rw q (record { goes = sym e ∙ h .goes ∙ w; kept = h .kept })
+
+-- a step with wider figures, from which its own are taken
+pub narrower : {F G : Type 0} {f : ℕ → List ℕ} {count : ℕ} {step : Step} {before after : List ℕ} {figures : G} {q : Reads (Marked G)} (up : F → G) (down : G → F) (p : Reads (Marked F))
+    → Stepped f count step before after figures q → ((x : F) → down (up x) ≡ x) → run f q ≡ mapped (λ t. record { map = t .map; figures = up (t .figures) }) (run f p) → Stepped f count step before after (down figures) p
+narrower {F} {G} {f} {count} {step} {before} {after} {figures} {q} up down p h back same = record { goes = go step (run f p) (h .goes ∙ same); kept = h .kept }
+  where
+    go : (s : Step) (o : Outcome (Marked F)) → outcomeOf {A = Marked G} s (record { map = after; figures = figures }) ≡ mapped {T = Marked G} (λ t. record { map = t .map; figures = up (t .figures) }) o → outcomeOf {A = Marked F} s (record { map = after; figures = down figures }) ≡ o
+    go Done (given t) e =
+        let at : _≡_ {A = Marked G} (record { map = after; figures = figures }) (record { map = t .map; figures = up (t .figures) }) = cc in
+        λ i. given (record { map = at i .map; figures = (ap (λ (x : Marked G). down (x .figures)) at ∙ back (t .figures)) i })
+    go Done (refused r) e = let z : _≡_ {A = ℕ} 0 1 = cc in absurd (omega arith)
+    go (Refused r) (given t) e = let z : _≡_ {A = ℕ} 0 1 = cc in absurd (omega arith)
+    go (Refused r) (refused x) e = let same : r ≡ x = cc in ap refused same

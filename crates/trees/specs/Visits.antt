@@ -97,3 +97,19 @@ queueBy f k place purpose (To m) s = readNode (k .container) (m .address) >>= λ
 
 abbrev pub scanFor : (ℕ → List ℕ) → Checkpoint → PoolPlace → Purpose → ObjectId → Marked Figures → Reads (Marked Figures)
 scanFor f k place purpose root s = queueBy f k place purpose (mappedIn f k (root .0)) s
+
+-- the queue for one purpose alone, with the definition's own state
+module _ {S : Type 0} (c : Container) (mapped : ℕ → Mapped) (visit : S → Entry → Reads S) where
+  unfoldable pub queueFrom : Mapped → S → Reads S
+  queueFrom Nowhere s = done s
+  queueFrom (To m) s = do
+    b ← readNode c (m .address)
+    d ← describe b
+    scan visit d (λ id. nodeBy c (mapped id)) b s
+
+abbrev pub queueIn : {S : Type 0} → (ℕ → List ℕ) → Checkpoint → (S → Entry → Reads S) → ObjectId → S → Reads S
+queueIn f k visit root s = queueFrom (k .container) (mappedIn f k) visit (mappedIn f k (root .0)) s
+
+-- the mappings of an object map whose tree's root is b
+unfoldable pub mappingsIn : Container → List ℕ → Marked OverlapLog → Reads (Marked OverlapLog)
+mappingsIn c b s = describe b >>= λ d. scan (claimMapping c) d (λ a. readNode c (record { 0 = a })) b s

@@ -8,14 +8,24 @@ use crate::children::mapped_at;
 use crate::scans::done;
 use crate::scans::refused;
 use crate::scans::scan;
+use audit::Audit;
+use audit::Audited;
 use blocks::ObjectId;
 use blocks::Seen;
 use checkpoint::Mapped;
+use claims::Claimed;
 use nodes::Described;
 use pool::PoolPlace;
+use report::OverlapLog;
+ghost use mathlib.Core.Path.{_≡_};
 ghost use Rattle.blocks.specs.Blocks.{blockOf};
-ghost use Rattle.trees.specs.Visits.{scanRoot, scanFor};
-ghost use Rattle.trees.specs.Answers.{Visits, figured};
+ghost use Rattle.report.specs.Report.{noProblems};
+ghost use Rattle.audit.specs.Audit.{auditQueued};
+ghost use Rattle.audit.specs.Answers.{Audits, poolAt};
+ghost use Rattle.claims.specs.Claims.{claimQueued};
+ghost use Rattle.claims.specs.Answers.{owned};
+ghost use Rattle.trees.specs.Visits.{scanRoot, scanFor, queueIn, mappingsIn};
+ghost use Rattle.trees.specs.Answers.{Visits, WalksWhole, figured};
 
 // The tree whose root was read from block at.
 fn scan_root(
@@ -70,4 +80,78 @@ fn scan_queue(
             }
         }
     }
+}
+
+// The entries of the pool queue, audited.
+pub fn audit_queue(
+    image: &[u8],
+    map: &mut [u8],
+    k: Checkpoint,
+    place: PoolPlace,
+    root: ObjectId,
+    audit: Audit,
+) -> Audited
+    ensures { λ r. ⌜ Audits (now (image .entry)) (k .container) r (now (map .entry)) (now (map .exit)) (queueIn (blockOf (now (image .entry)) (k .container .size)) k (auditQueued (k .container) (poolAt (now (image .entry)) (k .container) place)) root (record { map = now (map .entry); figures = audit })) ⌝ }
+{
+    let overlaps = report::logs::no_overlaps();
+    let figures = Figures { audit, overlaps };
+    let purpose = Purpose::PoolQueue;
+    let visited = scan_queue(image, map, k, place, purpose, root, figures);
+    let step = visited.step;
+    let figures = visited.figures;
+    let audit = figures.audit;
+    Audited { step, audit }
+}
+
+// A scan that claims looks at no figure of the audit.
+fn unaudited(overlaps: OverlapLog) -> Figures
+    ensures { λ r. ⌜ r ≡ record { audit = record { problems = noProblems; free = 0; wrong = 0 }; overlaps = overlaps } ⌝ }
+{
+    let problems = report::logs::no_problems();
+    let audit = Audit {
+        problems,
+        free: 0,
+        wrong: 0,
+    };
+    Figures { audit, overlaps }
+}
+
+// The blocks in the main queue, claimed.
+pub fn claim_queue(
+    image: &[u8],
+    map: &mut [u8],
+    k: Checkpoint,
+    place: PoolPlace,
+    root: ObjectId,
+    log: OverlapLog,
+) -> Claimed
+    ensures { λ r. ⌜ WalksWhole (now (image .entry)) (k .container) r (now (map .entry)) (now (map .exit)) (queueIn (blockOf (now (image .entry)) (k .container .size)) k (claimQueued (k .container)) root (owned (now (map .entry)) log)) ⌝ }
+{
+    let figures = unaudited(log);
+    let purpose = Purpose::MainQueue;
+    let visited = scan_queue(image, map, k, place, purpose, root, figures);
+    let step = visited.step;
+    let figures = visited.figures;
+    let log = figures.overlaps;
+    Claimed { step, log }
+}
+
+// The mappings of the object map whose tree's root is in block at, claimed.
+pub fn claim_mappings(
+    image: &[u8],
+    map: &mut [u8],
+    k: Checkpoint,
+    place: PoolPlace,
+    at: u64,
+    log: OverlapLog,
+) -> Claimed
+    ensures { λ r. ⌜ WalksWhole (now (image .entry)) (k .container) r (now (map .entry)) (now (map .exit)) (mappingsIn (k .container) (blockOf (now (image .entry)) (k .container .size) at) (owned (now (map .entry)) log)) ⌝ }
+{
+    let figures = unaudited(log);
+    let purpose = Purpose::Mappings;
+    let visited = scan_root(image, map, k, place, purpose, at, figures);
+    let step = visited.step;
+    let figures = visited.figures;
+    let log = figures.overlaps;
+    Claimed { step, log }
 }

@@ -3,46 +3,33 @@ use Rattle.trees.specs.Visits.{childFor}
 use borrow.Author.Needs.{needs}
 use Rattle.trees.proofs.children.child_for.Statement.{statement}
 use Rattle.trees.proofs.children.child_for.Tie as tie
-use Rattle.trees.proofs.children.child_for.Reads as reads
-use Rattle.trees.proofs.children.child_for.Lts as lts
-use Rattle.queue.proofs.child_at.Reads as child-at-reads
-use Rattle.trees.proofs.children.child_by_id.Reads as child-by-id-reads
 
--- src/children.rt:125:17
 enum-told : tie.Need-enum-told
 enum-told c = search needs
 
--- src/children.rt:126:13
 child-at-requires : tie.Need-child-at-requires
 child-at-requires c κs = search needs
 
--- src/children.rt:128:31
 enum-told-2 : tie.Need-enum-told-2
 enum-told-2 c = search needs
 
--- src/children.rt:128:31
 child-by-id-requires : tie.Need-child-by-id-requires
 child-by-id-requires c κs = search needs
 
--- src/children.rt:129:31
 enum-told-3 : tie.Need-enum-told-3
 enum-told-3 c = search needs
 
--- src/children.rt:129:31
 child-by-id-requires-2 : tie.Need-child-by-id-requires-2
 child-by-id-requires-2 c κs = search needs
 
--- src/children.rt:120:1
 returns : tie.Need-returns
 unfolding childFor
 returns c = c .child-at .ensures ∙ rw (c .before .before .enum-told .given .1) refl
 
--- src/children.rt:120:1
 returns-2 : tie.Need-returns-2
 unfolding childFor
 returns-2 c = c .child-by-id .ensures ∙ rw (c .before .enum-told2 .given .1) refl
 
--- src/children.rt:120:1
 returns-3 : tie.Need-returns-3
 unfolding childFor
 returns-3 c = c .child-by-id2 .ensures ∙ rw (c .before .enum-told3 .given .1) refl

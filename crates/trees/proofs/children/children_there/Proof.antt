@@ -26,44 +26,34 @@ abbrev μ-loop : tie.MeasureT-loop
 whole : (c : lts.At-loop (key-count-reads.Asked, key-count-reads.Learnt, pointer-of-reads.Asked, pointer-of-reads.Learnt) reads.Pre reads.Post Inv-loop μ-loop) (f : ℕ → List ℕ) → let a = c .before .before .before .args in childrenLeft f (a .d) (a .node .now) (c .before .key-count .result - c .loop .i) (c .loop .i) (pointersDown (a .d) (a .node .now) (c .loop .i)) ≡ childrenLeft f (a .d) (a .node .now) (keyCount (a .node .now)) 0 []
 whole c f = c .loop .inv .1 f ∙ rw (c .before .key-count .ensures .0) refl
 
--- src/children.rt:58:9
 key-count-requires : tie.Need-key-count-requires Inv-loop μ-loop
 key-count-requires c κs = search needs
 
--- src/children.rt:60:5
 loop-holds : tie.Need-loop-holds Inv-loop μ-loop
 unfolding pointersDown
 loop-holds c = (search needs, λ f. rw sub-zero refl)
 
--- src/children.rt:61:13
 pointer-of-requires : tie.Need-pointer-of-requires Inv-loop μ-loop
 pointer-of-requires c κs = search needs
 
--- src/children.rt:63:30
 enum-known-pointer : tie.Need-enum-known-pointer Inv-loop μ-loop
 enum-known-pointer c = search needs
 
--- src/children.rt:63:36
 returns : tie.Need-returns Inv-loop μ-loop
 returns c = λ f. sym (children-refused f _ _ _ _ (c .before .before .before .before .loop-test .taken) _ (sym (c .before .before .before .pointer-of .ensures f) ∙ ap pointerAs (c .before .pointer .given .1))) ∙ whole (c .before .before .before .before .before) f
 
--- src/children.rt:64:31
 enum-told : tie.Need-enum-told Inv-loop μ-loop
 enum-told c = search needs
 
--- src/children.rt:64:31
 add-i : tie.Need-add-i Inv-loop μ-loop
 add-i c = search needs
 
--- src/children.rt:60:5
 loop-less : tie.Need-loop-less Inv-loop μ-loop
 loop-less c = search needs
 
--- src/children.rt:60:5
 loop-again : tie.Need-loop-again Inv-loop μ-loop
 loop-again c = (search needs, λ f. sym (children-more f _ _ _ _ (c .before .before .before .loop-test .taken) _ (sym (c .before .before .pointer-of .ensures f) ∙ ap pointerAs (c .enum-told .given .1)) (sym (c .before .before .pointer-of .ensures noBlocks) ∙ ap pointerAs (c .enum-told .given .1))) ∙ c .before .before .before .before .loop .inv .1 f)
 
--- src/children.rt:55:1
 returns-2 : tie.Need-returns-2 Inv-loop μ-loop
 returns-2 c = λ f. (rw (c .before .before .key-count .ensures .0) refl) ∙ sym (children-done f _ _ _ _ (omega arith)) ∙ whole (c .before) f
 

@@ -4,31 +4,22 @@ use Rattle.trees.proofs.ChildLaws.{look-none, look-unread, look-read}
 use borrow.Author.Needs.{needs}
 use Rattle.trees.proofs.children.look_at.Statement.{statement}
 use Rattle.trees.proofs.children.look_at.Tie as tie
-use Rattle.trees.proofs.children.look_at.Reads as reads
-use Rattle.trees.proofs.children.look_at.Lts as lts
-use Rattle.nodes.proofs.entries.entry.Reads as entry-reads
 
--- src/children.rt:75:9
 returns : tie.Need-returns
 returns c = λ f. sym (look-none f _ _ _ _ (c .if1 .taken))
 
--- src/children.rt:77:9
 entry-requires : tie.Need-entry-requires
 entry-requires c κs = search needs
 
--- src/children.rt:79:26
 enum-known-found : tie.Need-enum-known-found
 enum-known-found c = search needs
 
--- src/children.rt:80:27
 enum-told : tie.Need-enum-told
 enum-told c = search needs
 
--- src/children.rt:71:1
 returns-2 : tie.Need-returns-2
 returns-2 c = λ f. sym (look-unread f _ _ _ _ (c .before .before .before .before .if1 .left) _ (sym (c .before .before .before .entry .ensures f) ∙ ap (entryIn _) (c .before .found .given .1)))
 
--- src/children.rt:71:1
 returns-3 : tie.Need-returns-3
 returns-3 c = λ f. sym (look-read f _ _ _ _ (c .before .before .before .if1 .left) _ (sym (c .before .before .entry .ensures f) ∙ ap (entryIn _) (c .enum-told .given .1)))
 

@@ -5,49 +5,34 @@ use Rattle.trees.proofs.ChildLaws.{child-pointless, child-unread, child
 use borrow.Author.Needs.{needs}
 use Rattle.trees.proofs.children.next_child.Statement.{statement}
 use Rattle.trees.proofs.children.next_child.Tie as tie
-use Rattle.trees.proofs.children.next_child.Reads as reads
-use Rattle.trees.proofs.children.next_child.Lts as lts
-use Rattle.trees.proofs.children.child_for.Reads as child-for-reads
-use Rattle.trees.proofs.children.one_below.Reads as one-below-reads
-use Rattle.trees.proofs.children.pointer_past.Reads as pointer-past-reads
 
--- src/children.rt:153:9
 pointer-past-requires : tie.Need-pointer-past-requires
 pointer-past-requires c κs = search needs
 
--- src/children.rt:155:26
 enum-known-pointer : tie.Need-enum-known-pointer
 enum-known-pointer c = search needs
 
--- src/children.rt:156:21
 enum-known-pointer-2 : tie.Need-enum-known-pointer-2
 enum-known-pointer-2 c = search needs
 
--- src/children.rt:157:17
 child-for-requires : tie.Need-child-for-requires
 child-for-requires c κs = search needs
 
--- src/children.rt:159:32
 enum-known-child : tie.Need-enum-known-child
 enum-known-child c = search needs
 
--- src/children.rt:160:27
 enum-known-child-2 : tie.Need-enum-known-child-2
 enum-known-child-2 c = search needs
 
--- src/children.rt:162:21
 one-below-requires : tie.Need-one-below-requires
 one-below-requires c κs = search needs
 
--- src/children.rt:146:1
 returns : tie.Need-returns
 returns c = sym (child-pointless _ _ _ _ _ _ _ _ (sym (c .before .before .before .pointer-past .ensures _) ∙ ap pointerAs (c .before .pointer .given .1)))
 
--- src/children.rt:146:1
 returns-2 : tie.Need-returns-2
 returns-2 c = sym (child-unread _ _ _ _ _ _ _ _ (sym (c .before .before .before .before .before .before .before .pointer-past .ensures _) ∙ ap pointerAs (c .before .before .before .before .before .pointer2 .given .1)) _ (sym (c .before .before .before .child-for .ensures) ∙ ap (childIn _) (c .before .child .given .1)))
 
--- src/children.rt:146:1
 returns-3 : tie.Need-returns-3
 returns-3 c = c .one-below .ensures ∙ sym (child-read _ _ _ _ _ _ _ _ (sym (c .before .before .before .before .before .before .before .before .before .pointer-past .ensures _) ∙ ap pointerAs (c .before .before .before .before .before .before .before .pointer2 .given .1)) _ (sym (c .before .before .before .before .before .child-for .ensures) ∙ ap (childIn _) (c .before .before .before .child2 .given .1)))
 

@@ -5,27 +5,19 @@ use Rattle.trees.proofs.ChildLaws.{pointer-is, pointer-none}
 use borrow.Author.Needs.{needs}
 use Rattle.trees.proofs.children.pointer_at.Statement.{statement}
 use Rattle.trees.proofs.children.pointer_at.Tie as tie
-use Rattle.trees.proofs.children.pointer_at.Reads as reads
-use Rattle.trees.proofs.children.pointer_at.Lts as lts
-use Rattle.trees.proofs.children.pointer_of.Reads as pointer-of-reads
 
--- src/children.rt:47:9
 pointer-of-requires : tie.Need-pointer-of-requires
 pointer-of-requires c κs = search needs
 
--- src/children.rt:49:21
 enum-known-pointer : tie.Need-enum-known-pointer
 enum-known-pointer c = search needs
 
--- src/children.rt:50:32
 enum-told : tie.Need-enum-told
 enum-told c = search needs
 
--- src/children.rt:44:1
 returns : tie.Need-returns
 returns c = sym (pointer-is _ _ _ _ (sym (c .before .before .before .pointer-of .ensures noBlocks) ∙ ap pointerAs (c .before .pointer .given .1)))
 
--- src/children.rt:44:1
 returns-2 : tie.Need-returns-2
 returns-2 c = sym (pointer-none _ _ _ _ (sym (c .before .before .pointer-of .ensures noBlocks) ∙ ap pointerAs (c .enum-told .given .1)))
 

@@ -4,32 +4,22 @@ use Rattle.trees.proofs.ChildLaws.{pointer-unread, pointer-read}
 use borrow.Author.Needs.{needs}
 use Rattle.trees.proofs.children.pointer_of.Statement.{statement}
 use Rattle.trees.proofs.children.pointer_of.Tie as tie
-use Rattle.trees.proofs.children.pointer_of.Reads as reads
-use Rattle.trees.proofs.children.pointer_of.Lts as lts
-use Rattle.nodes.proofs.entries.entry.Reads as entry-reads
-use Rattle.nodes.proofs.entries.pointer.Reads as pointer-reads
 
--- src/children.rt:33:9
 entry-requires : tie.Need-entry-requires
 entry-requires c κs = search needs
 
--- src/children.rt:35:26
 enum-known-found : tie.Need-enum-known-found
 enum-known-found c = search needs
 
--- src/children.rt:36:21
 enum-known-found-2 : tie.Need-enum-known-found-2
 enum-known-found-2 c = search needs
 
--- src/children.rt:38:13
 pointer-requires : tie.Need-pointer-requires
 pointer-requires c κs = search needs
 
--- src/children.rt:30:1
 returns : tie.Need-returns
 returns c = λ f. sym (pointer-unread f _ _ _ _ (sym (c .before .before .before .entry .ensures f) ∙ ap (entryIn _) (c .before .found .given .1)))
 
--- src/children.rt:30:1
 returns-2 : tie.Need-returns-2
 returns-2 c = λ f. c .pointer .ensures f ∙ sym (pointer-read f _ _ _ _ (sym (c .before .before .before .before .entry .ensures f) ∙ ap (entryIn _) (c .before .before .found2 .given .1)))
 

@@ -5,53 +5,37 @@ use Rattle.trees.proofs.ChildLaws.{past-unread, past-next, past-read}
 use borrow.Author.Needs.{needs}
 use Rattle.trees.proofs.children.pointer_past.Statement.{statement}
 use Rattle.trees.proofs.children.pointer_past.Tie as tie
-use Rattle.trees.proofs.children.pointer_past.Reads as reads
-use Rattle.trees.proofs.children.pointer_past.Lts as lts
-use Rattle.nodes.proofs.entries.entry.Reads as entry-reads
-use Rattle.nodes.proofs.entries.pointer.Reads as pointer-reads
-use Rattle.trees.proofs.children.look_at.Reads as look-at-reads
 
--- src/children.rt:89:9
 entry-requires : tie.Need-entry-requires
 entry-requires c κs = search needs
 
--- src/children.rt:91:26
 enum-known-found : tie.Need-enum-known-found
 enum-known-found c = search needs
 
--- src/children.rt:92:21
 enum-known-found-2 : tie.Need-enum-known-found-2
 enum-known-found-2 c = search needs
 
--- src/children.rt:93:43
 add-look-at : tie.Need-add-look-at
 add-look-at c = search needs
 
--- src/children.rt:93:17
 look-at-requires : tie.Need-look-at-requires
 look-at-requires c κs = search needs
 
--- src/children.rt:95:31
 enum-known-looked : tie.Need-enum-known-looked
 enum-known-looked c = search needs
 
--- src/children.rt:97:25
 enum-told : tie.Need-enum-told
 enum-told c = search needs
 
--- src/children.rt:98:21
 pointer-requires : tie.Need-pointer-requires
 pointer-requires c κs = search needs
 
--- src/children.rt:85:1
 returns : tie.Need-returns
 returns c = λ f. sym (past-unread f _ _ _ _ _ (sym (c .before .before .before .entry .ensures f) ∙ ap (entryIn _) (c .before .found .given .1)))
 
--- src/children.rt:85:1
 returns-2 : tie.Need-returns-2
 returns-2 c = λ f. sym (past-next f _ _ _ _ _ (sym (c .before .before .before .before .before .before .before .entry .ensures f) ∙ ap (entryIn _) (c .before .before .before .before .before .found2 .given .1)) _ (sym (c .before .before .before .look-at .ensures f) ∙ ap (seenAs tt) (c .before .looked .given .1)))
 
--- src/children.rt:85:1
 returns-3 : tie.Need-returns-3
 returns-3 c = λ f. c .pointer .ensures f ∙ sym (past-read f _ _ _ _ _ (sym (c .before .before .before .before .before .before .before .entry .ensures f) ∙ ap (entryIn _) (c .before .before .before .before .before .found2 .given .1)) (sym (c .before .before .before .look-at .ensures f) ∙ ap (seenAs tt) (c .before .enum-told .given .1)))
 

@@ -1,23 +1,16 @@
 use Rattle.audit.specs.declared.Audit.{Audit}
-use Rattle.trees.specs.declared.Figures.{Figures}
 use Rattle.trees.specs.Visits.{visitFor}
-use Rattle.trees.proofs.VisitLaws.{wider, claimed-step}
+use Rattle.trees.proofs.VisitLaws.{wider}
 use borrow.Author.Needs.{needs}
 use Rattle.trees.proofs.scans.audit_entry.Statement.{statement}
 use Rattle.trees.proofs.scans.audit_entry.Tie as tie
-use Rattle.trees.proofs.scans.audit_entry.Reads as reads
-use Rattle.trees.proofs.scans.audit_entry.Lts as lts
-use Rattle.audit.proofs.queued.audit_queued.Reads as audit-queued-reads
 
--- src/scans.rt:52:9
 audit-queued-requires : tie.Need-audit-queued-requires
 audit-queued-requires c κs = search needs
 
--- src/scans.rt:37:1
 same-length : tie.Need-same-length
 same-length c = c .before .before .before .audit-queued .ensures .kept .long
 
--- src/scans.rt:37:1
 returns : tie.Need-returns
 unfolding visitFor
 returns c = wider (λ (a : Audit). record { audit = a; overlaps = c .before .before .before .before .before .before .before .before .before .before .before .before .before .args .figures .overlaps }) (c .before .before .before .audit-queued .ensures)

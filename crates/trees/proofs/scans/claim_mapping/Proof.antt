@@ -1,23 +1,16 @@
 use Rattle.report.specs.declared.OverlapLog.{OverlapLog}
-use Rattle.trees.specs.declared.Figures.{Figures}
 use Rattle.trees.specs.Visits.{visitFor}
 use Rattle.trees.proofs.VisitLaws.{wider, claimed-step}
 use borrow.Author.Needs.{needs}
 use Rattle.trees.proofs.scans.claim_mapping.Statement.{statement}
 use Rattle.trees.proofs.scans.claim_mapping.Tie as tie
-use Rattle.trees.proofs.scans.claim_mapping.Reads as reads
-use Rattle.trees.proofs.scans.claim_mapping.Lts as lts
-use Rattle.claims.proofs.claim_mapping.Reads as claim-mapping-reads
 
--- src/scans.rt:95:9
 claim-mapping-requires : tie.Need-claim-mapping-requires
 claim-mapping-requires c κs = search needs
 
--- src/scans.rt:81:1
 same-length : tie.Need-same-length
 same-length c = search needs
 
--- src/scans.rt:81:1
 returns : tie.Need-returns
 unfolding visitFor
 returns c = wider (λ (o : OverlapLog). record { audit = c .before .before .before .before .before .before .before .before .before .before .before .before .args .figures .audit; overlaps = o }) (claimed-step _ (c .before .before .before .claim-mapping .ensures))

@@ -1,7 +1,7 @@
 use borrow.Author.Needs.{needs}
 use native.Mathlib.Nat.{sub-zero}
 use Prim.Native.Nat.{_-_}
-use mathlib.Core.Path.{_≡_, refl, sym, ap, _∙_}
+use mathlib.Core.Path.{refl, sym, ap, _∙_}
 use Rattle.blocks.specs.Blocks.{blockOf}
 use Rattle.nodes.specs.Node.{keyCount}
 use Rattle.nodes.specs.Answers.{entryIn}
@@ -12,13 +12,6 @@ use Rattle.trees.proofs.ScanLaws.{leafLeft, leaf-done, leaf-refused, le
 use Rattle.trees.proofs.VisitLaws.{Left, left-more, left-stop, left-done, left-refused}
 use Rattle.trees.proofs.scans.scan_leaf.Statement.{statement}
 use Rattle.trees.proofs.scans.scan_leaf.Tie as tie
-use Rattle.trees.proofs.scans.scan_leaf.Reads as reads
-use Rattle.trees.proofs.scans.scan_leaf.Lts as lts
-use Rattle.nodes.proofs.entries.entry.Reads as entry-reads
-use Rattle.nodes.proofs.node.key_count.Reads as key-count-reads
-use Rattle.trees.proofs.scans.done.Reads as done-reads
-use Rattle.trees.proofs.scans.refused.Reads as refused-reads
-use Rattle.trees.proofs.scans.visit.Reads as visit-reads
 
 abbrev Inv-loop : tie.InvT-loop
 Inv-loop image map₀ t node d n found₀ i₀ map found i = Left (t .checkpoint .container .count) map₀ map (leafLeft (blockOf image (t .checkpoint .container .size)) (treeVisit (blockOf image (t .checkpoint .container .size)) t (t .purpose)) (t .description) (treeChild (blockOf image (t .checkpoint .container .size)) t) node (n - i) i (figured map found)) (leafLeft (blockOf image (t .checkpoint .container .size)) (treeVisit (blockOf image (t .checkpoint .container .size)) t (t .purpose)) (t .description) (treeChild (blockOf image (t .checkpoint .container .size)) t) node (keyCount node) 0 (figured map₀ found₀))
@@ -26,79 +19,60 @@ Inv-loop image map₀ t node d n found₀ i₀ map found i = Left (t .checkpoint
 abbrev μ-loop : tie.MeasureT-loop
 μ-loop image map₀ t node d n found₀ i₀ map found i = n - i
 
--- src/scans.rt:119:9
 key-count-requires : tie.Need-key-count-requires Inv-loop μ-loop
 key-count-requires c κs = search needs
 
--- src/scans.rt:122:5
 loop-holds : tie.Need-loop-holds Inv-loop μ-loop
 loop-holds c = record { goes = rw (sub-zero, c .key-count .ensures .0) refl; kept = kept-same _ _ }
 
--- src/scans.rt:123:13
 entry-requires : tie.Need-entry-requires Inv-loop μ-loop
 entry-requires c κs = search needs
 
--- src/scans.rt:125:30
 enum-known-located : tie.Need-enum-known-located Inv-loop μ-loop
 enum-known-located c = search needs
 
--- src/scans.rt:125:36
 refused-requires : tie.Need-refused-requires Inv-loop μ-loop
 refused-requires c κs = search needs
 
--- src/scans.rt:125:36
 same-length : tie.Need-same-length Inv-loop μ-loop
 same-length c = c .before .before .before .before .before .before .loop .inv .kept .long
 
--- src/scans.rt:125:36
 returns : tie.Need-returns Inv-loop μ-loop
 returns c = left-refused (c .before .before .before .before .before .before .loop .inv) _ refl _ _ _ (c .refused .ensures) (leaf-refused _ _ _ _ _ _ _ _ (c .before .before .before .before .before .loop-test .taken) _ (sym (c .before .before .before .before .entry .ensures _) ∙ ap (entryIn _) (c .before .before .located .given .1)))
 
--- src/scans.rt:126:25
 enum-known-located-2 : tie.Need-enum-known-located-2 Inv-loop μ-loop
 enum-known-located-2 c = search needs
 
--- src/scans.rt:127:21
 visit-requires : tie.Need-visit-requires Inv-loop μ-loop
 visit-requires c κs = search needs
 
--- src/scans.rt:130:41
 enum-told : tie.Need-enum-told Inv-loop μ-loop
 enum-told c = search needs
 
--- src/scans.rt:130:41
 returns-2 : tie.Need-returns-2 Inv-loop μ-loop
 returns-2 c = left-stop (c .before .before .before .before .before .before .before .before .before .before .before .loop .inv) (c .before .before .before .before .visit .ensures) _ _ (c .enum-told .given .1) (λ e. leaf-stops _ _ _ _ _ _ _ _ (c .before .before .before .before .before .before .before .before .before .before .loop-test .taken) _ (sym (c .before .before .before .before .before .before .before .before .before .entry .ensures _) ∙ ap (entryIn _) (c .before .before .before .before .before .before .before .located2 .given .1)) _ e) refl
 
--- src/scans.rt:130:41
 same-length-2 : tie.Need-same-length-2 Inv-loop μ-loop
 same-length-2 c = returns-2 c .kept .long
 
--- src/scans.rt:132:25
 enum-told-2 : tie.Need-enum-told-2 Inv-loop μ-loop
 enum-told-2 c = search needs
 
--- src/scans.rt:133:25
 add-i : tie.Need-add-i Inv-loop μ-loop
 add-i c = search needs
 
--- src/scans.rt:122:5
 loop-less : tie.Need-loop-less Inv-loop μ-loop
 loop-less c = search needs
 
--- src/scans.rt:122:5
 loop-again : tie.Need-loop-again Inv-loop μ-loop
 loop-again c = left-more (c .before .before .before .before .before .before .before .before .before .before .before .before .loop .inv) (c .before .before .before .before .before .visit .ensures) (c .before .enum-told2 .given .1) (λ e. leaf-more _ _ _ _ _ _ _ _ (c .before .before .before .before .before .before .before .before .before .before .before .loop-test .taken) _ (sym (c .before .before .before .before .before .before .before .before .before .before .entry .ensures _) ∙ ap (entryIn _) (c .before .before .before .before .before .before .before .before .located2 .given .1)) _ e)
 
--- src/scans.rt:139:5
 done-requires : tie.Need-done-requires Inv-loop μ-loop
 done-requires c κs = search needs
 
--- src/scans.rt:115:1
 same-length-3 : tie.Need-same-length-3 Inv-loop μ-loop
 same-length-3 c = c .before .before .loop .inv .kept .long
 
--- src/scans.rt:115:1
 returns-3 : tie.Need-returns-3 Inv-loop μ-loop
 returns-3 c = left-done (c .before .before .loop .inv) _ refl _ _ (c .done .ensures) (leaf-done _ _ _ _ _ _ _ _ (c .before .loop-test .left))
 
