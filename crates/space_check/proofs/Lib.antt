@@ -1,5 +1,5 @@
--- The definition computed: document 01's samples and its listing's container.
+-- Laws of the pass.
 pub mod Computing
 pub mod Container
-pub mod Listing
-pub mod Samples
+pub mod Late
+pub mod PassLaws

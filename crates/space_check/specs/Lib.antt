@@ -1,2 +1,3 @@
--- The pass: the audit, the claims, the report, the whole.
+-- The pass: the audit, the claims, the report, the whole; and its stages in the code.
 pub mod Check
+pub mod Stages

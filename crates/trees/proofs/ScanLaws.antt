@@ -25,7 +25,7 @@ bind-assoc f (done a) g h = refl
 bind-assoc f (refuse r) g h = refl
 bind-assoc f (read n k) g h = bind-assoc f (k (f n)) g h
 
-bind-cong : {A B : Type 0} (f : ℕ → List ℕ) (p : Reads A) (g h : A → Reads B) → ((a : A) → run f (g a) ≡ run f (h a)) → run f (p >>= g) ≡ run f (p >>= h)
+pub bind-cong : {A B : Type 0} (f : ℕ → List ℕ) (p : Reads A) (g h : A → Reads B) → ((a : A) → run f (g a) ≡ run f (h a)) → run f (p >>= g) ≡ run f (p >>= h)
 unfolding run _>>=_
 bind-cong f (done a) g h e = e a
 bind-cong f (refuse r) g h e = refl

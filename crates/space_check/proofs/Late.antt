@@ -1,0 +1,460 @@
+-- The body of a pass gives late refusals alone: those numbered 12 and above, which zero the block map.
+use mathlib.Core.Path.{_≡_, refl, subst}
+use mathlib.Core.Bool.{Bool, true, false, _||_}
+use mathlib.Core.List.{List, [], _∷_}
+use mathlib.Core.Option.{Option, some, none}
+use Prim.Native.Nat.{ℕ, zero, suc, _+_, _<_}
+use lib.Dec.{leb, eqb}
+use lib.ListN.{getD}
+use borrow.Author.Tests.{leb-false}
+use Rattle.fields.specs.Choice.{choose}
+use Rattle.fields.specs.Fields.{bitAt}
+use Rattle.fields.specs.declared.Field.{Field}
+use Rattle.fields.specs.declared.Field.the-variants.{Value, Absent}
+use Rattle.blocks.specs.Reads.{Reads, done, refuse, read, Outcome, given, refused, run, _>>=_, need}
+use Rattle.blocks.specs.Blocks.{readRaw, readObject, present, field, part, sum}
+use Rattle.blocks.specs.Refusals.{numberOf}
+use Rattle.blocks.specs.declared.Address.{Address}
+use Rattle.blocks.specs.declared.Container.{Container}
+use Rattle.blocks.specs.declared.ObjectId.{ObjectId}
+use Rattle.blocks.specs.declared.Refusal.{Refusal}
+use Rattle.nodes.specs.Node.{Entry, isLeaf, isFixed, ghostOffset, parse, readNode, describe, fixedSlot, variableSlot, slot, valueOf, entry, pointer}
+use Rattle.nodes.specs.ObjectMap.{readObjectMap, describeMap, loadObjectMap}
+use Rattle.nodes.specs.Scan.{lookAt, leafFrom, indexFrom, scanNode, below, scan}
+use Rattle.nodes.specs.Walk.{Walked, childrenFrom, each, walkBelow, walk}
+use Rattle.nodes.specs.declared.Description.{Description}
+use Rattle.nodes.specs.declared.Slot.{Slot}
+use Rattle.checkpoint.specs.Checkpoint.{Taken}
+use Rattle.checkpoint.specs.declared.Mapping.{Mapping}
+use Rattle.checkpoint.specs.declared.Mapped.{Mapped}
+use Rattle.checkpoint.specs.declared.Mapped.the-variants.{To, Nowhere}
+use Rattle.manager.specs.Manager.{managerFrom, managerAt, managerBy, manager, listFrom}
+use Rattle.manager.specs.Chunks.{chunksFrom}
+use Rattle.manager.specs.declared.Chunk.{Chunk}
+use Rattle.block_map.specs.BlockMap.{Marked, update, marked, ownerOf}
+use Rattle.report.specs.Report.{addProblem, addOverlap}
+use Rattle.report.specs.declared.Problem.{Problem}
+use Rattle.report.specs.declared.ProblemLog.{ProblemLog}
+use Rattle.report.specs.declared.Overlap.{Overlap}
+use Rattle.report.specs.declared.OverlapLog.{OverlapLog}
+use Rattle.pool.specs.Pool.{Pool, bitmapsFrom, loadPool}
+use Rattle.queue.specs.Queue.{runCount, runOf, nodeBy, scanQueue, queue}
+use Rattle.totals.specs.Totals.{unowned}
+use Rattle.audit.specs.Audit.{unless, markFrom, tally, auditBitmap, auditChunk, auditChunks, auditInfo, auditInfos, auditQueuedFrom, auditQueued}
+use Rattle.audit.specs.declared.Audit.{Audit}
+use Rattle.claims.specs.Claims.{claimBlock, claimFrom, claim, claimNode, claimMapped, claimMapping, claimQueued}
+use Rattle.space_check.specs.Check.{audit, claimAreas, claimObjects, claims, body, lastUntouched}
+
+abbrev pub IsLate : Refusal → Type 0
+IsLate r = leb (numberOf r) lastUntouched ≡ false
+
+-- a pass whose every refusal is late, whatever it reads
+unfoldable pub Late : {A : Type 0} → Reads A → Type 0
+Late (done a) = Unit {0}
+Late (refuse r) = IsLate r
+Late (read n k) = (b : List ℕ) → Late (k b)
+
+abbrev LateOutcome : {A : Type 0} → Outcome A → Type 0
+LateOutcome (given a) = Unit {0}
+LateOutcome (refused r) = IsLate r
+
+late-outcome : {A : Type 0} (f : ℕ → List ℕ) (p : Reads A) → Late p → LateOutcome (run f p)
+unfolding run Late
+late-outcome f (done a) h = tt
+late-outcome f (refuse r) h = h
+late-outcome f (read n k) h = late-outcome f (k (f n)) (h (f n))
+
+pub late-run : {A : Type 0} (f : ℕ → List ℕ) (p : Reads A) (r : Refusal) → Late p → run f p ≡ refused r → IsLate r
+late-run f p r h e = subst LateOutcome e (late-outcome f p h)
+
+-- the steps that passes are made of
+
+late-done : {A : Type 0} (a : A) → Late (done a)
+unfolding Late
+late-done a = tt
+
+late-refuse : (A : Type 0) (r : Refusal) → IsLate r → Late {A = A} (refuse r)
+unfolding Late
+late-refuse A r h = h
+
+late-read : (n : ℕ) → Late (read n done)
+unfolding Late
+late-read n b = tt
+
+late-bind : {A B : Type 0} (p : Reads A) (g : A → Reads B) → Late p → ((a : A) → Late (g a)) → Late (p >>= g)
+unfolding Late _>>=_
+late-bind (done a) g h k = k a
+late-bind (refuse r) g h k = h
+late-bind (read n q) g h k = λ b. late-bind (q b) g (h b) k
+
+late-need : (b : Bool) (r : Refusal) → IsLate r → Late (need b r)
+unfolding Late need
+late-need true r h = tt
+late-need false r h = h
+
+late-choose : {A : Type 0} (t : Bool) (p q : Reads A) → Late p → Late q → Late (choose t (λ _. p) (λ _. q))
+late-choose true p q h k = h
+late-choose false p q h k = k
+
+-- a test and what follows it
+late-test : {A : Type 0} (b : Bool) (r : Refusal) (g : Unit {0} → Reads A) → IsLate r → Late (g tt) → Late (need b r >>= g)
+late-test b r g h k = late-bind _ _ (late-need b r h) (λ u. k)
+
+-- blocks and fields
+
+late-readRaw : (c : Container) (a : Address) → Late (readRaw c a)
+unfolding readRaw
+late-readRaw c a = late-test _ _ _ refl (late-read _)
+
+late-readObject : (c : Container) (a : Address) → Late (readObject c a)
+unfolding readObject
+late-readObject c a = late-test _ _ _ refl (late-bind _ _ (late-read _) (λ b. late-test _ _ _ refl (late-done _)))
+
+late-present : (x : Field) → Late (present x)
+unfolding present
+late-present (Value v) = late-done _
+late-present Absent = late-refuse _ _ refl
+
+late-field : (w : ℕ) (b : List ℕ) (off : ℕ) → Late (field w b off)
+unfolding field
+late-field w b off = late-present _
+
+late-part : (n : ℕ) (b : List ℕ) (off : ℕ) → Late (part n b off)
+unfolding part
+late-part n b off = late-test _ _ _ refl (late-done _)
+
+late-sum : (a b : ℕ) → Late (sum a b)
+unfolding sum
+late-sum a b = late-test _ _ _ refl (late-done _)
+
+-- nodes
+
+late-parse : (b : List ℕ) → Late (parse b)
+unfolding parse
+late-parse b = late-test _ _ _ refl (late-test _ _ _ refl (late-test _ _ _ refl (late-test _ _ _ refl (late-done _))))
+
+late-readNode : (c : Container) (a : Address) → Late (readNode c a)
+unfolding readNode
+late-readNode c a = late-bind _ _ (late-readObject c a) late-parse
+
+late-describe : (b : List ℕ) → Late (describe b)
+unfolding describe
+late-describe b = late-test _ _ _ refl (late-done _)
+
+late-fixedSlot : (d : Description) (b : List ℕ) (e : ℕ) → Late (fixedSlot d b e)
+unfolding fixedSlot
+late-fixedSlot d b e = late-bind _ _ (late-field _ _ _) (λ k. late-bind _ _ (late-field _ _ _) (λ v. late-done _))
+
+late-variableSlot : (b : List ℕ) (e : ℕ) → Late (variableSlot b e)
+unfolding variableSlot
+late-variableSlot b e = late-bind _ _ (late-field _ _ _) (λ k. late-bind _ _ (late-field _ _ _) (λ l. late-bind _ _ (late-field _ _ _) (λ v. late-bind _ _ (late-field _ _ _) (λ m. late-done _))))
+
+late-slot : (d : Description) (b : List ℕ) (i : ℕ) → Late (slot d b i)
+unfolding slot
+late-slot d b i = late-choose (isFixed b) _ _ (late-fixedSlot d b _) (late-variableSlot b _)
+
+late-valueOf : (b : List ℕ) (s : Slot) → Late (valueOf b s)
+unfolding valueOf
+late-valueOf b s = late-choose (eqb (s .voff) ghostOffset) _ _ (late-done _) (late-test _ _ _ refl (late-bind _ _ (late-part _ _ _) (λ v. late-done _)))
+
+late-entry : (d : Description) (b : List ℕ) (i : ℕ) → Late (entry d b i)
+unfolding entry
+late-entry d b i = late-bind _ _ (late-slot d b i) (λ s. late-bind _ _ (late-part _ _ _) (λ k. late-bind _ _ (late-valueOf b s) (λ v. late-done _)))
+
+late-pointer : (v : Option (List ℕ)) → Late (pointer v)
+unfolding pointer
+late-pointer none = late-refuse _ _ refl
+late-pointer (some v) = late-field _ _ _
+
+-- the object map
+
+late-readObjectMap : (c : Container) (a : Address) → Late (readObjectMap c a)
+unfolding readObjectMap
+late-readObjectMap c a = late-bind _ _ (late-readObject c a) (λ b. late-test _ _ _ refl (late-test _ _ _ refl (late-done _)))
+
+late-describeMap : (b : List ℕ) → Late (describeMap b)
+unfolding describeMap
+late-describeMap b = late-bind _ _ (late-describe b) (λ d. late-test _ _ _ refl (late-done _))
+
+late-loadObjectMap : (c : Container) (a : Address) → Late (loadObjectMap c a)
+unfolding loadObjectMap
+late-loadObjectMap c a = late-bind _ _ (late-readObjectMap c a) (λ r. late-bind _ _ (late-readNode c r) (λ b. late-bind _ _ (late-describeMap b) (λ d. late-done _)))
+
+-- scans
+
+late-lookAt : (d : Description) (b : List ℕ) (left i : ℕ) → Late (lookAt d b left i)
+unfolding lookAt
+late-lookAt d b zero i = late-done _
+late-lookAt d b (suc left) i = late-bind _ _ (late-entry d b i) (λ e. late-done _)
+
+module _ {S : Type 0} (visit : S → Entry → Reads S) (d : Description) (child : ℕ → Reads (List ℕ)) (v : (s : S) (e : Entry) → Late (visit s e)) (k : (n : ℕ) → Late (child n)) where
+  late-leafFrom : (b : List ℕ) (left i : ℕ) (s : S) → Late (leafFrom visit d child b left i s)
+  unfolding leafFrom
+  late-leafFrom b zero i s = late-done _
+  late-leafFrom b (suc left) i s = late-bind _ _ (late-entry d b i) (λ e. late-bind _ _ (v s e) (λ s′. late-leafFrom b left (i + 1) s′))
+
+  module _ (down : List ℕ → S → Reads S) (h : (b : List ℕ) (s : S) → Late (down b s)) where
+    late-indexFrom : (b : List ℕ) (left i : ℕ) (s : S) → Late (indexFrom visit d child down b left i s)
+    unfolding indexFrom
+    late-indexFrom b zero i s = late-done _
+    late-indexFrom b (suc left) i s =
+        late-bind _ _ (late-entry d b i) (λ e.
+        late-bind _ _ (late-lookAt d b left (i + 1)) (λ u.
+        late-bind _ _ (late-pointer (e .value)) (λ a.
+        late-bind _ _ (k a) (λ n.
+        late-bind _ _ (h n s) (λ s′. late-indexFrom b left (i + 1) s′)))))
+
+    late-scanNode : (b : List ℕ) (s : S) → Late (scanNode visit d child down b s)
+    unfolding scanNode
+    late-scanNode b s = late-choose (isLeaf b) _ _ (late-leafFrom b _ 0 s) (late-indexFrom b _ 0 s)
+
+  late-below : (l : ℕ) (b : List ℕ) (s : S) → Late (below visit d child l b s)
+  unfolding below
+  late-below zero b s = late-refuse _ _ refl
+  late-below (suc l) b s = late-test _ _ _ refl (late-scanNode (below visit d child l) (late-below l) b s)
+
+  late-scan : (b : List ℕ) (s : S) → Late (scan visit d child b s)
+  unfolding scan
+  late-scan b s = late-scanNode _ (late-below _) b s
+
+-- walks
+
+late-childrenFrom : (d : Description) (b : List ℕ) (left i : ℕ) (found : List ℕ) → Late (childrenFrom d b left i found)
+unfolding childrenFrom
+late-childrenFrom d b zero i found = late-done _
+late-childrenFrom d b (suc left) i found = late-bind _ _ (late-entry d b i) (λ e. late-bind _ _ (late-pointer (e .value)) (λ a. late-childrenFrom d b left (i + 1) (a ∷ found)))
+
+module _ {S : Type 0} (visit : S → Address → Reads S) (c : Container) (d : Description) (v : (s : S) (a : Address) → Late (visit s a)) where
+  late-each : (down : ℕ → Walked S → Reads (Walked S)) → ((a : ℕ) (w : Walked S) → Late (down a w)) → (l : List ℕ) (w : Walked S) → Late (each visit c d down l w)
+  unfolding each
+  late-each down h [] w = late-done _
+  late-each down h (a ∷ rest) w = late-bind _ _ (h a w) (late-each down h rest)
+
+  late-walkBelow : (levels a : ℕ) (w : Walked S) → Late (walkBelow visit c d levels a w)
+  unfolding walkBelow
+  late-walkBelow zero a w = late-refuse _ _ refl
+  late-walkBelow (suc levels) a w =
+      late-test _ _ _ refl (late-bind _ _ (late-readNode c _) (λ b.
+      late-bind _ _ (v _ _) (λ s.
+      late-choose (isLeaf b) _ _ (late-done _) (late-bind _ _ (late-childrenFrom d b _ 0 []) (λ cs. late-each _ (late-walkBelow levels) cs _)))))
+
+  late-walk : (a : Address) (s : S) → Late (walk visit c d a s)
+  unfolding walk
+  late-walk a s = late-bind _ _ (late-walkBelow _ _ _) (λ w. late-done _)
+
+-- the manager
+
+late-managerFrom : (c : Container) (sb : List ℕ) (at left i : ℕ) (found : List ℕ) → Late (managerFrom c sb at left i found)
+unfolding managerFrom
+late-managerFrom c sb at zero i found = late-done _
+late-managerFrom c sb at (suc left) i found =
+    late-test _ _ _ refl (late-bind _ _ (late-sum _ _) (λ o.
+    late-bind _ _ (late-sum _ _) (λ a.
+    late-bind _ _ (late-readRaw c _) (λ b. late-managerFrom c sb at left (i + 1) _))))
+
+late-managerAt : (c : Container) (sb : List ℕ) (m : Mapping) → Late (managerAt c sb m)
+unfolding managerAt
+late-managerAt c sb m = late-bind _ _ (late-managerFrom c sb _ _ 0 []) (λ bs. late-test _ _ _ refl (late-test _ _ _ refl (late-test _ _ _ refl (late-done _))))
+
+late-managerBy : (c : Container) (sb : List ℕ) (m : Mapped) → Late (managerBy c sb m)
+unfolding managerBy
+late-managerBy c sb Nowhere = late-refuse _ _ refl
+late-managerBy c sb (To m) = late-managerAt c sb m
+
+late-manager : (c : Container) (t : Taken) → Late (manager c t)
+unfolding manager
+late-manager c t = late-managerBy c _ _
+
+late-listFrom : (w : ℕ) (sm : List ℕ) (left off : ℕ) → Late (listFrom w sm left off)
+unfolding listFrom
+late-listFrom w sm zero off = late-done _
+late-listFrom w sm (suc left) off = late-bind _ _ (late-field w sm off) (λ x. late-bind _ _ (late-listFrom w sm left (off + w)) (λ xs. late-done _))
+
+late-chunksFrom : (b : List ℕ) (left e : ℕ) → Late (chunksFrom b left e)
+unfolding chunksFrom
+late-chunksFrom b zero e = late-done _
+late-chunksFrom b (suc left) e = late-test _ _ _ refl (late-bind _ _ (late-chunksFrom b left _) (λ cs. late-done _))
+
+-- the pool
+
+late-bitmapsFrom : (c : Container) (ring : ℕ) (is found : List ℕ) → Late (bitmapsFrom c ring is found)
+unfolding bitmapsFrom
+late-bitmapsFrom c ring [] found = late-done _
+late-bitmapsFrom c ring (i ∷ is) found = late-bind _ _ (late-sum ring i) (λ a. late-bind _ _ (late-readRaw c _) (λ b. late-bitmapsFrom c ring is _))
+
+late-loadPool : (c : Container) (sm : List ℕ) → Late (loadPool c sm)
+unfolding loadPool
+late-loadPool c sm = late-bind _ _ (late-listFrom _ sm _ _) (λ is. late-bind _ _ (late-bitmapsFrom c _ is []) (λ bits. late-test _ _ _ refl (late-done _)))
+
+-- logs
+
+late-addProblem : (p : Problem) (l : ProblemLog) → Late (addProblem p l)
+unfolding addProblem
+late-addProblem p l = late-bind _ _ (late-sum _ _) (λ n. late-done _)
+
+late-addOverlap : (o : Overlap) (l : OverlapLog) → Late (addOverlap o l)
+unfolding addOverlap
+late-addOverlap o l = late-bind _ _ (late-sum _ _) (λ n. late-done _)
+
+-- free queues
+
+late-runCount : (v : Option (List ℕ)) → Late (runCount v)
+unfolding runCount
+late-runCount none = late-done _
+late-runCount (some v) = late-field _ _ _
+
+late-runOf : (e : Entry) → Late (runOf e)
+unfolding runOf
+late-runOf e = late-bind _ _ (late-field _ _ _) (λ a. late-bind _ _ (late-runCount (e .value)) (λ n. late-done _))
+
+late-nodeBy : (c : Container) (m : Mapped) → Late (nodeBy c m)
+unfolding nodeBy
+late-nodeBy c Nowhere = late-refuse _ _ refl
+late-nodeBy c (To m) = late-readNode c _
+
+module _ {S : Type 0} (c : Container) (map : List Mapping) (visit : S → Entry → Reads S) (v : (s : S) (e : Entry) → Late (visit s e)) where
+  late-scanQueue : (s : S) (m : Mapped) → Late (scanQueue c map visit s m)
+  unfolding scanQueue
+  late-scanQueue s Nowhere = late-done _
+  late-scanQueue s (To m) = late-bind _ _ (late-readNode c _) (λ b. late-bind _ _ (late-describe b) (λ d. late-scan visit d _ v (λ id. late-nodeBy c _) b s))
+
+  late-queue : (root : ObjectId) (s : S) → Late (queue c map visit root s)
+  unfolding queue
+  late-queue root s = late-scanQueue s _
+
+-- the audit
+
+late-unless : (t : Bool) (kind a : ℕ) (s : Marked Audit) → Late (unless t kind a s)
+unfolding unless
+late-unless true kind a s = late-done _
+late-unless false kind a s = late-bind _ _ (late-addProblem _ _) (λ l. late-done _)
+
+late-markFrom : (c : Container) (bits : List ℕ) (start left i : ℕ) (s : Marked ℕ) → Late (markFrom c bits start left i s)
+unfolding markFrom
+late-markFrom c bits start zero i s = late-done _
+late-markFrom c bits start (suc left) i s =
+    late-choose (bitAt bits i) _ _
+    (late-bind _ _ (late-sum _ _) (λ a. late-test _ _ _ refl (late-markFrom c bits start left (i + 1) (record { map = update marked a (s .map); figures = s .figures }))))
+    (late-markFrom c bits start left (i + 1) (record { map = s .map; figures = s .figures + 1 }))
+
+late-tally : (ch : Chunk) (map : List ℕ) (a : Audit) (zeros : ℕ) → Late (tally ch map a zeros)
+unfolding tally
+late-tally ch map a zeros = late-bind _ _ (late-sum _ _) (λ f. late-bind _ _ (late-sum _ _) (λ w. late-done _))
+
+late-auditBitmap : (c : Container) (p : Pool) (ch : Chunk) (s : Marked Audit) → Late (auditBitmap c p ch s)
+unfolding auditBitmap
+late-auditBitmap c p ch s =
+    late-bind _ _ (late-unless _ _ _ s) (λ s₁.
+    late-bind _ _ (late-unless _ _ _ s₁) (λ s₂.
+    late-bind _ _ (late-readRaw c _) (λ b.
+    late-test _ _ _ refl (late-bind _ _ (late-markFrom c b _ _ 0 _) (λ m. late-tally ch _ _ _)))))
+
+late-auditChunk : (c : Container) (p : Pool) (ch : Chunk) (s : Marked Audit) → Late (auditChunk c p ch s)
+unfolding auditChunk
+late-auditChunk c p ch s = late-choose (eqb (ch .bitmap) 0) _ _ (late-tally ch _ _ _) (late-auditBitmap c p ch s)
+
+late-auditChunks : (c : Container) (p : Pool) (l : List Chunk) (s : Marked Audit) → Late (auditChunks c p l s)
+unfolding auditChunks
+late-auditChunks c p [] s = late-done _
+late-auditChunks c p (ch ∷ rest) s = late-bind _ _ (late-auditChunk c p ch s) (late-auditChunks c p rest)
+
+late-auditInfo : (c : Container) (p : Pool) (a : ℕ) (s : Marked Audit) → Late (auditInfo c p a s)
+unfolding auditInfo
+late-auditInfo c p a s =
+    late-bind _ _ (late-unless _ _ _ s) (λ s₁.
+    late-bind _ _ (late-readRaw c _) (λ b.
+    late-bind _ _ (late-chunksFrom b _ _) (λ chs. late-auditChunks c p chs _)))
+
+late-auditInfos : (c : Container) (p : Pool) (l : List ℕ) (s : Marked Audit) → Late (auditInfos c p l s)
+unfolding auditInfos
+late-auditInfos c p [] s = late-done _
+late-auditInfos c p (a ∷ rest) s = late-bind _ _ (late-auditInfo c p a s) (late-auditInfos c p rest)
+
+late-auditQueuedFrom : (c : Container) (p : Pool) (left a : ℕ) (s : Marked Audit) → Late (auditQueuedFrom c p left a s)
+unfolding auditQueuedFrom
+late-auditQueuedFrom c p zero a s = late-done _
+late-auditQueuedFrom c p (suc left) a s = late-bind _ _ (late-unless _ _ _ s) (λ s₁. late-bind _ _ (late-unless _ _ _ s₁) (λ s₂. late-auditQueuedFrom c p left (a + 1) _))
+
+late-auditQueued : (c : Container) (p : Pool) (s : Marked Audit) (e : Entry) → Late (auditQueued c p s e)
+unfolding auditQueued
+late-auditQueued c p s e = late-bind _ _ (late-runOf e) (λ r. late-test _ _ _ refl (late-auditQueuedFrom c p _ _ s))
+
+-- the claims
+
+late-claimBlock : (kind a : ℕ) (s : Marked OverlapLog) → Late (claimBlock kind a s)
+unfolding claimBlock
+late-claimBlock kind a s =
+    let owner = ownerOf (getD (s .map) a 0) in
+    late-choose (eqb owner unowned || eqb owner kind) _ _ (late-done _) (late-bind _ _ (late-addOverlap _ _) (λ l. late-done _))
+
+late-claimFrom : (kind left a : ℕ) (s : Marked OverlapLog) → Late (claimFrom kind left a s)
+unfolding claimFrom
+late-claimFrom kind zero a s = late-done _
+late-claimFrom kind (suc left) a s = late-bind _ _ (late-claimBlock kind a s) (late-claimFrom kind left (a + 1))
+
+late-claim : (c : Container) (kind start len : ℕ) (s : Marked OverlapLog) → Late (claim c kind start len s)
+unfolding claim
+late-claim c kind start len s = late-bind _ _ (late-sum start len) (λ e. late-claimFrom kind _ start s)
+
+late-claimNode : (c : Container) (s : Marked OverlapLog) (a : Address) → Late (claimNode c s a)
+unfolding claimNode
+late-claimNode c s a = late-claim c _ _ _ s
+
+late-claimMapped : (c : Container) (s : Marked OverlapLog) (key : List ℕ) (v : Option (List ℕ)) → Late (claimMapped c s key v)
+unfolding claimMapped
+late-claimMapped c s key none = late-done _
+late-claimMapped c s key (some v) = late-bind _ _ (late-field _ _ _) (λ x. late-bind _ _ (late-field _ _ _) (λ y. late-bind _ _ (late-field _ _ _) (λ a. late-claim c _ _ _ s)))
+
+late-claimMapping : (c : Container) (s : Marked OverlapLog) (e : Entry) → Late (claimMapping c s e)
+unfolding claimMapping
+late-claimMapping c s e = late-claimMapped c s _ _
+
+late-claimQueued : (c : Container) (s : Marked OverlapLog) (e : Entry) → Late (claimQueued c s e)
+unfolding claimQueued
+late-claimQueued c s e = late-bind _ _ (late-runOf e) (λ r. late-claim c _ _ _ s)
+
+-- the whole
+
+late-audit : (c : Container) (t : Taken) (sm : List ℕ) (p : Pool) (map : List ℕ) → Late (audit c t sm p map)
+unfolding audit
+late-audit c t sm p map = late-bind _ _ (late-listFrom _ sm _ _) (λ infos. late-bind _ _ (late-auditInfos c p infos _) (λ s. late-queue c _ _ (late-auditQueued c p) _ s))
+
+late-claimAreas : (c : Container) (t : Taken) (sm : List ℕ) (s : Marked OverlapLog) → Late (claimAreas c t sm s)
+unfolding claimAreas
+late-claimAreas c t sm s =
+    late-bind _ _ (late-claim c _ _ _ s) (λ s₁.
+    late-bind _ _ (late-claim c _ _ _ s₁) (λ s₂.
+    late-bind _ _ (late-claim c _ _ _ s₂) (λ s₃.
+    late-bind _ _ (late-claim c _ _ _ s₃) (λ s₄.
+    late-bind _ _ (late-claim c _ _ _ s₄) (λ s₅. late-claim c _ _ _ s₅)))))
+
+late-claimObjects : (c : Container) (root : Address) (s : Marked OverlapLog) → Late (claimObjects c root s)
+unfolding claimObjects
+late-claimObjects c root s =
+    late-bind _ _ (late-readNode c root) (λ b.
+    late-bind _ _ (late-describe b) (λ d.
+    late-bind _ _ (late-walk _ c d (late-claimNode c) root s) (λ s₁.
+    late-scan _ d _ (late-claimMapping c) (λ a. late-readNode c _) b s₁)))
+
+late-claims : (c : Container) (t : Taken) (sm : List ℕ) (root : Address) (map : List ℕ) → Late (claims c t sm root map)
+unfolding claims
+late-claims c t sm root map =
+    late-bind _ _ (late-claimAreas c t sm _) (λ s₁.
+    late-bind _ _ (late-claimObjects c root s₁) (λ s₂. late-queue c _ _ (late-claimQueued c) _ s₂))
+
+pub late-body : (t : Taken) (map : List ℕ) (c : Container) → Late (body t map c)
+unfolding body
+late-body t map c =
+    late-bind _ _ (late-loadObjectMap c _) (λ root.
+    late-bind _ _ (late-manager c t) (λ sm.
+    late-bind _ _ (late-loadPool c sm) (λ p.
+    late-bind _ _ (late-audit c t sm p _) (λ a.
+    late-bind _ _ (late-claims c t sm root _) (λ o. late-done _)))))
+
+module _ (f : ℕ → List ℕ) (t : Taken) (map : List ℕ) (c : Container) (r : Refusal) (e : run f (body t map c) ≡ refused r) where
+  -- as the block map's rule tests it
+  pub body-touches : leb (numberOf r) lastUntouched ≡ false
+  body-touches = late-run f _ r (late-body t map c) e
+
+  pub body-late : lastUntouched < numberOf r
+  body-late = leb-false _ _ body-touches
