@@ -15,8 +15,8 @@ use Rattle.checkpoint.specs.Superblock.{sound}
 use Rattle.checkpoint.specs.declared.Geometry.{Geometry}
 use Rattle.checkpoint.specs.declared.Mapping.{Mapping}
 use Rattle.space_check.specs.Check.{check}
-use Rattle.space_check.proofs.Computing.{computed}
-use Rattle.space_check.proofs.Container.{blockBytes, managerId, managerBlock, superblock, checkpointMap, roomy}
+use Rattle.samples.proofs.Computing.{computed}
+use Rattle.samples.proofs.Container.{blockBytes, managerId, managerBlock, superblock, checkpointMap, roomy}
 use Rattle.commit.specs.Stores.{Store, touched, touchedFrom, blockTouched, overwrite, finished}
 use Rattle.commit.specs.Commit.{Takes, Rules, kept, noneOf}
 

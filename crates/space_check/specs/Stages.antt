@@ -1,8 +1,9 @@
 -- The pass as the code takes it: the checkpoint map and the manager's lists are read in place.
 use mathlib.Core.List.{List}
 use mathlib.Core.Path.{_≡_}
-use Prim.Native.Nat.{ℕ, zero, suc, _+_}
+use Prim.Native.Nat.{ℕ, zero, suc, _+_, _*_, _%_, _^_, _≤_, _<_}
 use lib.Dec.{leb, eqb}
+use lib.ListN.{length}
 use Rattle.fields.specs.Choice.{pick}
 use Rattle.blocks.specs.Reads.{Reads, done, Outcome, given, refused, run, _>>=_}
 use Rattle.blocks.specs.Blocks.{blockOf}
@@ -11,10 +12,12 @@ use Rattle.blocks.specs.declared.Container.{Container}
 use Rattle.nodes.specs.Node.{readNode}
 use Rattle.nodes.specs.ObjectMap.{loadObjectMap}
 use Rattle.checkpoint.specs.Superblock.{descriptorBase, descriptorBlocks, dataBase, dataBlocks, managerId, objectMapAddress, withoutTopBit}
+use Rattle.checkpoint.specs.declared.Geometry.{Geometry}
 use Rattle.manager.specs.Manager.{managerBy, poolBase, poolBlocks, poolRingBase, poolRingBlocks, poolQueue, mainQueue}
 use Rattle.manager.specs.Place.{placed}
-use Rattle.block_map.specs.BlockMap.{Marked}
-use Rattle.report.specs.Report.{noProblems, noOverlaps}
+use Rattle.block_map.specs.BlockMap.{Marked, cleared}
+use Rattle.report.specs.Report.{noProblems, noOverlaps, refusal, reported}
+use Rattle.report.specs.declared.Answer.{Answer}
 use Rattle.report.specs.declared.OverlapLog.{OverlapLog}
 use Rattle.report.specs.declared.Report.{Report}
 use Rattle.pool.specs.Pool.{Pool, loadPool}
@@ -25,7 +28,7 @@ use Rattle.audit.specs.declared.Audit.{Audit}
 use Rattle.claims.specs.Claims.{containerSuperblock, descriptorArea, dataArea, internalPool, objectMap, claim, claimQueued}
 use Rattle.trees.specs.Visits.{mappedIn, queueIn}
 use Rattle.trees.specs.declared.Checkpoint.{Checkpoint}
-use Rattle.space_check.specs.Check.{claimObjects, reportOf}
+use Rattle.space_check.specs.Check.{Result, claimObjects, reportOf}
 use Rattle.space_check.specs.declared.Area.{Area}
 use Rattle.space_check.specs.declared.Found.{Found}
 use Rattle.space_check.specs.declared.Passed.{Passed}
@@ -113,3 +116,19 @@ Passes image k r before after defined = Stepped (blockOf image (k .container .si
 -- the root of the object map's tree was read when the map was loaded
 abbrev pub RootRead : List ℕ → Checkpoint → Found → Type 0
 RootRead image k x = run (blockOf image (k .container .size)) (readNode (k .container) (x .root)) ≡ given (blockOf image (k .container .size) (x .root .0))
+
+-- a body's outcome, whose refusals zero each block's byte
+abbrev pub settleLate : ℕ → List ℕ → Outcome (Marked Report) → Result
+settleLate count map (given s) = record { answer = reported (s .figures); map = s .map }
+settleLate count map (refused r) = record { answer = refusal r; map = cleared count map }
+
+-- what refusals 1 to 8 leave, of an image and a block map
+pub record Ready (image map : List ℕ) (g : Geometry) : Type 0 where
+  pub some : 0 < g .size
+  pub words : g .size % 4 ≡ 0
+  pub fits : g .count * g .size ≤ length image
+  pub room : g .count ≤ length map
+  pub area : g .base + g .ring < 2 ^ 64
+
+abbrev pub resultOf : Answer → List ℕ → Result
+resultOf a map = record { answer = a; map = map }
