@@ -1,14 +1,24 @@
 //! Links the proved library where the feature asks for it.
 
+use std::path::Path;
+
 fn main() {
     println!("cargo:rerun-if-env-changed=SPACE_CHECK_DIR");
     if std::env::var_os("CARGO_FEATURE_LIBRARY").is_none() {
         return;
     }
-    let Ok(dir) = std::env::var("SPACE_CHECK_DIR") else {
-        eprintln!("the feature `library` needs SPACE_CHECK_DIR, the folder that holds libspace_check.a");
+    let root = Path::new(env!("CARGO_MANIFEST_DIR")).join("..");
+    let dir = root.join(std::env::var_os("SPACE_CHECK_DIR").unwrap_or("target/staticlib".into()));
+    let archive = dir.join("libinterface.a");
+    if !archive.exists() {
+        eprintln!(
+            "{} isn't there: run `rt staticlib interface`, or set SPACE_CHECK_DIR to its folder",
+            archive.display()
+        );
         std::process::exit(1);
-    };
-    println!("cargo:rustc-link-search=native={dir}");
-    println!("cargo:rustc-link-lib=static=space_check");
+    }
+    // A new archive is linked anew.
+    println!("cargo:rerun-if-changed={}", archive.display());
+    println!("cargo:rustc-link-search=native={}", dir.display());
+    println!("cargo:rustc-link-lib=static=interface");
 }

@@ -1,20 +1,29 @@
 //! The seam to the proved library, linked with the feature `library`.
 //!
-//! `libspace_check.a` is to give one C function that takes the image and the block map and fills in an answer's
-//! numbers. It is called in the worker process: a crash there is seen and counts as a disagreement.
+//! `libinterface.a` has one C function, which takes the image, the block map and an array for the answer's numbers
+//! (interface/space_check.h). It is called in the worker process: a crash there is seen and counts as a disagreement.
 
 #[cfg(feature = "library")]
 pub fn check(image: &[u8], map: &mut [u8]) -> Option<Vec<u64>> {
     extern "C" {
-        fn space_check(image: *const u8, length: usize, map: *mut u8, map_length: usize, answer: *mut u64);
+        fn space_check(
+            image: *const u8,
+            image_length: usize,
+            map: *mut u8,
+            map_length: usize,
+            figures: *mut u64,
+            figures_length: usize,
+        );
     }
-    let mut answer = vec![0; crate::answer::NUMBERS];
-    // SAFETY: both slices are lent whole for the call, and the answer has the room that the function fills.
-    unsafe { space_check(image.as_ptr(), image.len(), map.as_mut_ptr(), map.len(), answer.as_mut_ptr()) };
-    Some(answer)
+    // Not the zeros that a number left out would be taken for.
+    let mut figures = vec![u64::MAX; crate::answer::NUMBERS];
+    let (numbers, room) = (figures.as_mut_ptr(), figures.len());
+    // SAFETY: each buffer is lent whole for the call, and the three don't overlap.
+    unsafe { space_check(image.as_ptr(), image.len(), map.as_mut_ptr(), map.len(), numbers, room) };
+    Some(figures)
 }
 
-/// Not linked yet.
+/// Not linked.
 #[cfg(not(feature = "library"))]
 pub fn check(_image: &[u8], _map: &mut [u8]) -> Option<Vec<u64>> {
     None

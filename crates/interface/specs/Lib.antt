@@ -1,0 +1,2 @@
+-- The answer as C is handed it.
+pub mod Figures

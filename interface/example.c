@@ -1,0 +1,72 @@
+/* example IMAGE: prints the verdict on a container's image, or the refusal's number.
+ *
+ *     rt staticlib interface
+ *     cc -o target/example interface/example.c target/staticlib/libinterface.a
+ *
+ * Exit status: 0 consistent, 1 inconsistent or refused, 2 where the image can't be read. */
+#include <fcntl.h>
+#include <inttypes.h>
+#include <stdio.h>
+#include <stdlib.h>
+#include <sys/mman.h>
+#include <sys/stat.h>
+#include <unistd.h>
+
+#include "space_check.h"
+
+enum { BLOCK_COUNT = 40 }; /* where block 0 states it, in 8 bytes */
+
+#define MOST_BLOCKS UINT32_MAX /* a container with more is refused */
+
+/* How long a map the pass may need: the block count, as far as it isn't refused. */
+static size_t map_length(const uint8_t *image, size_t length)
+{
+    uint64_t count = 0;
+    if (length < BLOCK_COUNT + 8)
+        return 0;
+    for (int i = 7; i >= 0; i--)
+        count = count << 8 | image[BLOCK_COUNT + i];
+    return count < MOST_BLOCKS ? count : MOST_BLOCKS;
+}
+
+int main(int argc, char **argv)
+{
+    static uint8_t none;
+    uint64_t figures[SPACE_CHECK_FIGURES] = {0};
+    uint8_t *image = &none, *map;
+    struct stat file;
+    size_t length, blocks;
+    int fd;
+
+    if (argc != 2) {
+        fprintf(stderr, "usage: example IMAGE\n");
+        return 2;
+    }
+    fd = open(argv[1], O_RDONLY);
+    if (fd < 0 || fstat(fd, &file) < 0) {
+        perror(argv[1]);
+        return 2;
+    }
+    length = file.st_size;
+    if (length > 0)
+        image = mmap(NULL, length, PROT_READ, MAP_PRIVATE, fd, 0);
+    if (image == MAP_FAILED) {
+        perror(argv[1]);
+        return 2;
+    }
+    blocks = map_length(image, length);
+    map = calloc(blocks + 1, 1);
+    if (map == NULL) {
+        perror("block map");
+        return 2;
+    }
+
+    space_check(image, length, map, blocks, figures, SPACE_CHECK_FIGURES);
+
+    if (figures[SPACE_CHECK_REFUSAL] != 0) {
+        printf("refused %" PRIu64 "\n", figures[SPACE_CHECK_REFUSAL]);
+        return 1;
+    }
+    printf("xid %" PRIu64 ", verdict %" PRIu64 "\n", figures[SPACE_CHECK_XID], figures[SPACE_CHECK_VERDICT]);
+    return figures[SPACE_CHECK_VERDICT] == 1 ? 0 : 1;
+}
