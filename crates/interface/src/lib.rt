@@ -12,6 +12,6 @@ pub extern "C" fn space_check(image: &[u8], map: &mut [u8], figures: &mut [u64])
     ensures { λ r. ⌜ now (map .exit) ≡ check (now (image .entry)) (now (map .entry)) .map ⌝ }
     ensures { λ r. ⌜ now (figures .exit) ≡ written (check (now (image .entry)) (now (map .entry)) .answer) (now (figures .entry)) ⌝ }
 {
-    let answer = space_check::check(image, map);
+    let answer = space_check::passes::check(image, map);
     write_figures(answer, figures);
 }

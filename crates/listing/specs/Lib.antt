@@ -1,0 +1,3 @@
+-- Text in a lent line, and the lines of the listing.
+pub mod Text
+pub mod Lines
