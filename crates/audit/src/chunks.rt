@@ -17,11 +17,6 @@ ghost use Rattle.manager.specs.Lists.{records, values};
 ghost use Rattle.audit.specs.Audit.{auditBitmap, auditChunk, auditChunks, auditInfo, auditInfos};
 ghost use Rattle.audit.specs.Answers.{Audits, poolAt, infoEntered, infoRead, auditListed};
 
-// Where a chunk-info block counts its records, and the manager its chunk-info blocks.
-const RECORD_COUNT: usize = 36;
-
-const INFO_COUNT: u64 = 64;
-
 // A chunk that has a bitmap.
 fn audit_bitmap(
     image: &[u8],
@@ -73,7 +68,7 @@ fn audit_chunks(
 ) -> Audited
     ensures { λ r. ⌜ Audits (now (image .entry)) container r (now (map .entry)) (now (map .exit)) (auditChunks container (poolAt (now (image .entry)) container p) (records (now (block .entry)) (chunkCount (now (block .entry))) chunksAt) (record { map = now (map .entry); figures = audit })) ⌝ }
 {
-    let n = fields::u32_of(block, RECORD_COUNT);
+    let n = fields::u32_of(block, manager::chunks::COUNT);
     let mut found = audit;
     let mut i = 0;
     while i < n {
@@ -169,7 +164,7 @@ fn audit_listed(
     ensures { λ r. ⌜ Audits (now (image .entry)) container r (now (map .entry)) (now (map .exit)) (auditInfos container (poolAt (now (image .entry)) container p) (values 8 (bytesOf (now (image .entry)) (container .size) (p .manager)) (chunkInfoCount (bytesOf (now (image .entry)) (container .size) (p .manager))) (chunkInfosAt (bytesOf (now (image .entry)) (container .size) (p .manager)))) (record { map = now (map .entry); figures = audit })) ⌝ }
 {
     let m = p.manager;
-    let n = manager::place::u32_of(image, container, m, INFO_COUNT);
+    let n = manager::place::u32_of(image, container, m, manager::offsets::CHUNK_INFO_COUNT);
     let mut found = audit;
     let mut k = 0;
     while k < n {

@@ -2,6 +2,7 @@
 use crate::Geometry;
 use crate::Opened;
 use crate::superblock;
+use crate::superblock::TOP_BIT;
 use blocks::Refusal;
 ghost use mathlib.Core.Path.{_≡_};
 ghost use lib.ListN.{length, take};
@@ -16,8 +17,6 @@ pub const MAGIC: u64 = 0x4253584e;
 const LEAST_SIZE: usize = 4096;
 
 const MOST_BLOCKS: u64 = 4294967295;
-
-const TOP_BIT: u64 = 0x80000000;
 
 fn size_allowed(n: u64) -> bool
     ensures { λ r. ⌜ r ≡ sizeAllowed n ⌝ }

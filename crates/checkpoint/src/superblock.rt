@@ -5,6 +5,9 @@ ghost use mathlib.Core.Path.{_≡_};
 ghost use Prim.Native.Nat.{_<_, _^_};
 ghost use Rattle.checkpoint.specs.Superblock.{magicOf, blockSize as blockSizeOf, blockCount as blockCountOf, incompatible as incompatibleOf, descriptorBlocks, dataBlocks, descriptorBase, dataBase, descriptorIndex, descriptorLength, managerId, objectMapAddress};
 
+// The top bit of an area's length, which is no part of it.
+pub const TOP_BIT: u64 = 0x80000000;
+
 const MAGIC_BYTES: usize = 32;
 
 const BLOCK_SIZE: usize = 36;

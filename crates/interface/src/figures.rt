@@ -2,6 +2,8 @@
 use blocks::number_of;
 use report::Answer;
 use report::Ending;
+use report::KINDS;
+use report::LOGGED;
 use report::Lost;
 use report::Overlap;
 use report::Problem;
@@ -11,11 +13,6 @@ ghost use Prim.Native.Nat.{_<_, _^_};
 ghost use lib.ListN.{length, set};
 ghost use Rattle.report.specs.Report.{logged, kinds, endingNumber};
 ghost use Rattle.interface.specs.Figures.{problemFigures, overlapFigures, lostCount, lostFirst, stored, answerFigures, written};
-
-// How many problems and overlaps a report names, and how many kinds of claimants there are.
-const LOGGED: usize = 10;
-
-const KINDS: usize = 9;
 
 // How many numbers a problem and an overlap have.
 const PROBLEM_FIGURES: usize = 2;

@@ -15,6 +15,8 @@ use fields::part_of;
 use libc::STDOUT_FILENO;
 use report::Answer;
 use report::Ending;
+use report::KINDS;
+use report::LOGGED;
 use report::Lost;
 use report::OverlapLog;
 use report::ProblemLog;
@@ -26,11 +28,7 @@ ghost use Rattle.totals.specs.Totals.{lostIn};
 
 // Every line fits (proofs/Room.antt): the longest has three figures of 20 digits.
 const LINE: usize = 256;
-// How many problems and overlaps a report names.
-const LOGGED: usize = 10;
-// How many kinds of claimants there are.
-const KINDS: usize = 9;
-
+// The owner of the first kind of claimants.
 const FIRST_KIND: u8 = 1;
 // Places of the kinds in a report, in the order of their names.
 const BY_NAME: [usize; KINDS] = [2, 1, 0, 8, 3, 4, 5, 6, 7];

@@ -7,7 +7,8 @@ ghost use Prim.Native.Nat.{_+_, _*_};
 ghost use Rattle.manager.specs.Chunks.{chunksAt, chunkLength, chunkAt};
 ghost use Rattle.manager.specs.Lists.{ChunksSeen};
 
-const COUNT: usize = 36;
+// Where a chunk-info block counts its records.
+pub const COUNT: usize = 36;
 
 const RECORDS: usize = 40;
 

@@ -4,6 +4,7 @@ use blocks::Refusal;
 pub mod chunks;
 pub mod lists;
 pub mod load;
+pub mod offsets;
 pub mod place;
 
 // A run of blocks with one bitmap.

@@ -1,5 +1,9 @@
 // The manager's lists of indices and addresses, in place: whether one lies wholly inside the manager, and its entries.
 use crate::Manager;
+use crate::offsets::CHUNK_INFO_COUNT;
+use crate::offsets::CHUNK_INFOS_AT;
+use crate::offsets::POOL_BITMAPS;
+use crate::offsets::POOL_INDICES_AT;
 use crate::place;
 use blocks::Container;
 use blocks::Refusal;
@@ -11,16 +15,8 @@ ghost use lib.ListN.{length};
 ghost use Rattle.manager.specs.Place.{bytesOf};
 ghost use Rattle.manager.specs.Lists.{FieldsSeen, ListSeen, EntryRead, IndicesSeen, InfosSeen, IndexRead, InfoRead};
 
-// Where the main device's and the pool's lists are told of, and how wide their entries are.
-const CHUNK_INFO_COUNT: u64 = 64;
-
-const CHUNK_INFOS_AT: u64 = 80;
-
+// How wide the entries of the main device's list and of the pool's are.
 const CHUNK_INFO_WIDTH: u64 = 8;
-
-const POOL_BITMAPS: u64 = 160;
-
-const POOL_INDICES_AT: u64 = 328;
 
 const POOL_INDEX_WIDTH: u64 = 2;
 

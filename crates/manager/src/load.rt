@@ -1,12 +1,14 @@
 // Loads the manager: its blocks are looked for, its bytes verified in place, its first fields tested. What is answered is where it stands.
 use crate::Managed;
 use crate::Manager;
+use crate::offsets::ADDRESS_BLOCKS;
 use crate::place;
 use blocks::Container;
 use blocks::Refusal;
 use blocks::Seen;
 use checkpoint::Mapped;
 use checkpoint::Mapping;
+use checkpoint::superblock;
 use fletcher::Sums;
 ghost use mathlib.Core.Path.{_≡_};
 ghost use Prim.Native.Nat.{_%_, _<_, _≤_};
@@ -17,11 +19,6 @@ ghost use Rattle.manager.specs.Manager.{blocksFor, managerAt, managerBy}
 ghost use Rattle.manager.specs.Place.{placeOf, bytesOf};
 ghost use Rattle.manager.specs.Answers.{managerIn};
 ghost use Rattle.manager.specs.Load.{BlockSeen, BlocksSeen, Stands, Piece, accepted};
-
-// Fields of the superblock: the data area's length and base.
-const DATA_BLOCKS: usize = 108;
-
-const DATA_BASE: usize = 120;
 
 // The least length of an object that verifies, and of a manager.
 const LEAST_OBJECT: u64 = 32;
@@ -35,17 +32,14 @@ const CHECKSUM: u64 = 0;
 
 const SUMMED_FROM: u64 = 8;
 
-// Where the manager counts its address blocks.
-const ADDRESS_BLOCKS: u64 = 68;
-
 // Where a mapping says that the manager stands, in the data area that the superblock names.
 fn place_of(sb: &[u8], mapping: Mapping) -> Manager
     ensures { λ r. ⌜ r ≡ placeOf (now (sb .entry)) mapping ⌝ }
 {
     let address = mapping.address;
     Manager {
-        base: fields::u64_of(sb, DATA_BASE),
-        blocks: fields::u32_of(sb, DATA_BLOCKS),
+        base: superblock::data_base(sb),
+        blocks: superblock::data_blocks(sb),
         at: address.0,
         size: mapping.size,
     }

@@ -1,15 +1,13 @@
 // A manager's bytes, read where they stand: nothing is copied, and a field may straddle two blocks of the ring.
 use crate::Manager;
 use blocks::Container;
+use checkpoint::superblock::TOP_BIT;
 ghost use mathlib.Core.Path.{_≡_};
 ghost use Prim.Native.Nat.{_+_, _<_, _≤_};
 ghost use lib.ListN.{getD};
 ghost use Rattle.fields.specs.Fields.{Number};
 ghost use Rattle.blocks.specs.Blocks.{blockOf};
 ghost use Rattle.manager.specs.Place.{ringLength, ringIndex, addressIn, bytesOf};
-
-// What the top bit of a stored length is worth; it is dropped.
-const TOP_BIT: u64 = 2147483648;
 
 fn wide(x: u8) -> u64
     ensures { λ r. ⌜ (r ≡ x) × (r < 256) ⌝ }

@@ -3,6 +3,7 @@ use blocks::Container;
 use blocks::Refusal;
 use blocks::Seen;
 use manager::Manager;
+use manager::offsets;
 ghost use mathlib.Core.Path.{_≡_};
 ghost use Prim.Native.Nat.{_+_, _*_, _<_, _≤_};
 ghost use lib.Dec.{leb};
@@ -18,15 +19,6 @@ ghost use Rattle.pool.specs.Pool.{loadPool, poolIndex, poolMarked, unuse
 ghost use Rattle.pool.specs.Place.{bitmapIn, poolIn};
 ghost use Rattle.pool.specs.Unused.{unusedOne};
 ghost use Rattle.pool.specs.Load.{placeIn, places, BitmapSeen, BitmapsSeen, poolFrom};
-
-// Fields of the manager: the pool's length, the blocks of its bitmap, their ring, and the pool's first block.
-const BLOCKS: u64 = 152;
-
-const BITMAPS: u64 = 160;
-
-const RING: u64 = 168;
-
-const BASE: u64 = 176;
 
 // Where the pool lies, and through what its bitmap is found: the manager, and the ring of its bitmap blocks.
 pub struct PoolPlace {
@@ -63,7 +55,7 @@ fn bitmap_byte(image: &[u8], container: Container, p: PoolPlace, j: u64) -> u8
     }
     let m = p.manager;
     let i = j / size;
-    if manager::place::u32_of(image, container, m, BITMAPS) <= i {
+    if manager::place::u32_of(image, container, m, offsets::POOL_BITMAPS) <= i {
         return 0;
     }
     let k = manager::lists::pool_index(image, container, m, i);
@@ -102,9 +94,9 @@ pub fn pool_place(image: &[u8], container: Container, m: Manager) -> PoolPlace
 {
     PoolPlace {
         manager: m,
-        base: manager::place::u64_of(image, container, m, BASE),
-        blocks: manager::place::u64_of(image, container, m, BLOCKS),
-        ring: manager::place::u64_of(image, container, m, RING),
+        base: manager::place::u64_of(image, container, m, offsets::POOL_BASE),
+        blocks: manager::place::u64_of(image, container, m, offsets::POOL_BLOCKS),
+        ring: manager::place::u64_of(image, container, m, offsets::POOL_RING),
     }
 }
 
@@ -155,7 +147,7 @@ fn load_at(image: &[u8], container: Container, p: PoolPlace) -> Seen
     ensures { λ r. ⌜ seenAs (poolIn (blockOf (now (image .entry)) (container .size)) (container .size) p) r ≡ run (blockOf (now (image .entry)) (container .size)) (poolFrom container p (places (blockOf (now (image .entry)) (container .size)) (container .size) p (poolBitmaps (bytesOf (now (image .entry)) (container .size) (p .manager))))) ⌝ }
 {
     let m = p.manager;
-    let n = manager::place::u32_of(image, container, m, BITMAPS);
+    let n = manager::place::u32_of(image, container, m, offsets::POOL_BITMAPS);
     let seen = bitmaps_there(image, container, p, n);
     match seen {
         Seen::Refused(r) => Seen::Refused(r),

@@ -5,9 +5,9 @@ pub mod answers;
 pub mod logs;
 
 // How many problems and overlaps a report names.
-const LOGGED: usize = 10;
+pub const LOGGED: usize = 10;
 // How many kinds of claimants there are.
-const KINDS: usize = 9;
+pub const KINDS: usize = 9;
 
 // Something wrong with a block of the internal pool.
 pub struct Problem {

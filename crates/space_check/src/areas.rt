@@ -2,8 +2,10 @@
 use crate::Area;
 use blocks::Container;
 use checkpoint::superblock;
+use checkpoint::superblock::TOP_BIT;
 use claims::Claimed;
 use manager::Manager;
+use manager::offsets;
 use manager::place;
 use report::OverlapLog;
 use report::Step;
@@ -16,18 +18,6 @@ ghost use Rattle.claims.specs.Claims.{containerSuperblock};
 ghost use Rattle.claims.specs.Answers.{owned};
 ghost use Rattle.trees.specs.Answers.{WalksWhole};
 ghost use Rattle.space_check.specs.Stages.{superblockArea, poolArea, areaOf, areasFrom, areas};
-
-// Where the manager names the pool and the ring of its bitmap.
-const POOL_BLOCKS: u64 = 152;
-
-const POOL_RING_BLOCKS: u64 = 164;
-
-const POOL_RING: u64 = 168;
-
-const POOL_BASE: u64 = 176;
-
-// What the top bit of a stored length is worth; it is dropped.
-const TOP_BIT: u64 = 0x80000000;
 
 // The descriptor area and the data area.
 fn superblock_area(image: &[u8], k: Checkpoint, kind: u8) -> Area
@@ -53,13 +43,13 @@ fn pool_area(image: &[u8], container: Container, m: Manager, kind: u8) -> Area
 {
     if kind == claims::INTERNAL_POOL {
         return Area {
-            start: place::u64_of(image, container, m, POOL_BASE),
-            len: place::u64_of(image, container, m, POOL_BLOCKS),
+            start: place::u64_of(image, container, m, offsets::POOL_BASE),
+            len: place::u64_of(image, container, m, offsets::POOL_BLOCKS),
         };
     }
     Area {
-        start: place::u64_of(image, container, m, POOL_RING),
-        len: place::u32_of(image, container, m, POOL_RING_BLOCKS),
+        start: place::u64_of(image, container, m, offsets::POOL_RING),
+        len: place::u32_of(image, container, m, offsets::POOL_RING_BLOCKS),
     }
 }
 

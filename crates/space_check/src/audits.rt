@@ -6,6 +6,8 @@ use audit::Audited;
 use blocks::Address;
 use blocks::ObjectId;
 use claims::Claimed;
+use manager::offsets::MAIN_QUEUE;
+use manager::offsets::POOL_QUEUE;
 use manager::place;
 use nodes::Described;
 use pool::PoolPlace;
@@ -22,11 +24,6 @@ ghost use Rattle.claims.specs.Answers.{owned};
 ghost use Rattle.trees.specs.Answers.{WalksWhole};
 ghost use Rattle.space_check.specs.Check.{claimObjects};
 ghost use Rattle.space_check.specs.Stages.{foundIn, auditFor, objectsFor, claimsFor, RootRead};
-
-// Where the manager names the roots of the two queues.
-const POOL_QUEUE: u64 = 208;
-
-const MAIN_QUEUE: u64 = 248;
 
 fn nothing_audited() -> Audit
     ensures { λ r. ⌜ r ≡ record { problems = noProblems; free = 0; wrong = 0 } ⌝ }

@@ -6,6 +6,7 @@ use crate::audits::audit_all;
 use crate::audits::claim_all;
 use crate::load::load;
 use audit::Audit;
+use manager::offsets::DEVICE_FREE;
 use manager::place;
 use report::OverlapLog;
 use report::Report;
@@ -17,9 +18,6 @@ ghost use Rattle.manager.specs.Place.{bytesOf};
 ghost use Rattle.pool.specs.Place.{poolIn};
 ghost use Rattle.space_check.specs.Check.{reportOf};
 ghost use Rattle.space_check.specs.Stages.{foundIn, afterAudit, bodyFrom, bodyFor, Passes, RootRead};
-
-// Where the manager counts the main device's free blocks.
-const DEVICE_FREE: u64 = 72;
 
 fn report_of(
     image: &[u8],

@@ -3,6 +3,7 @@ use block_map::is_marked;
 use block_map::is_used;
 use block_map::owner;
 use fields::part_of;
+use report::KINDS;
 use report::Lost;
 ghost use mathlib.Core.Path.{_≡_};
 ghost use mathlib.Core.Bool.{not};
@@ -13,10 +14,9 @@ ghost use Rattle.fields.specs.Choice.{pick};
 ghost use Rattle.totals.specs.Totals.{isLeaked, lostIn, verdictOf};
 ghost use Rattle.totals.specs.Counting.{firstKind, lostKind, noLost, oneMore, totalsOf};
 
-// How many kinds of claimants there are, and the first one.
-const KINDS: usize = 9;
-
+// The owner of the first kind of claimants.
 const FIRST_KIND: u8 = 1;
+
 // The owner of a block that nothing claimed.
 const UNOWNED: u8 = 0;
 

@@ -1,5 +1,5 @@
 -- Laws of scans: their loops, and that the purpose leaves the other figures as they were.
-use mathlib.Core.Path.{_≡_, refl, sym, _∙_}
+use mathlib.Core.Path.{ap, _≡_, refl, sym, _∙_}
 use mathlib.Core.Bool.{Bool, true, false}
 use mathlib.Core.List.{List}
 use Prim.Native.Nat.{ℕ, zero, suc, _+_, _-_, _≤_, _<_, pred}
@@ -12,6 +12,7 @@ use Rattle.blocks.specs.Reads.{Reads, done, refuse, read, Outcome, given, refus
 use Rattle.blocks.proofs.Laws.{andThen, run-bind, then-given, then-refused}
 use Rattle.blocks.specs.declared.Refusal.{Refusal}
 use Rattle.blocks.specs.declared.Refusal.the-variants.{WrongLevel}
+use Rattle.audit.proofs.Laws.{bind-assoc as assoc}
 use Rattle.nodes.specs.Node.{Entry, isLeaf, levelOf, keyCount, entry, pointer}
 use Rattle.nodes.specs.Scan.{leafFrom, lookAt, indexFrom, scanNode, below, scan}
 use Rattle.nodes.specs.declared.Description.{Description}
@@ -20,10 +21,7 @@ use Rattle.trees.specs.Visits.{pointerPast, oneBelow, childBelow}
 -- sequences, whatever comes after
 
 pub bind-assoc : {A B C : Type 0} (f : ℕ → List ℕ) (p : Reads A) (g : A → Reads B) (h : B → Reads C) → run f (p >>= g >>= h) ≡ run f (p >>= λ a. g a >>= h)
-unfolding run _>>=_
-bind-assoc f (done a) g h = refl
-bind-assoc f (refuse r) g h = refl
-bind-assoc f (read n k) g h = bind-assoc f (k (f n)) g h
+bind-assoc f p g h = ap (run f) (assoc p g h)
 
 pub bind-cong : {A B : Type 0} (f : ℕ → List ℕ) (p : Reads A) (g h : A → Reads B) → ((a : A) → run f (g a) ≡ run f (h a)) → run f (p >>= g) ≡ run f (p >>= h)
 unfolding run _>>=_

@@ -1,0 +1,24 @@
+// Offsets in a manager.
+pub const CHUNK_INFO_COUNT: u64 = 64;
+
+pub const ADDRESS_BLOCKS: u64 = 68;
+
+pub const DEVICE_FREE: u64 = 72;
+
+pub const CHUNK_INFOS_AT: u64 = 80;
+
+pub const POOL_BLOCKS: u64 = 152;
+
+pub const POOL_BITMAPS: u64 = 160;
+
+pub const POOL_RING_BLOCKS: u64 = 164;
+
+pub const POOL_RING: u64 = 168;
+
+pub const POOL_BASE: u64 = 176;
+
+pub const POOL_QUEUE: u64 = 208;
+
+pub const MAIN_QUEUE: u64 = 248;
+
+pub const POOL_INDICES_AT: u64 = 328;
