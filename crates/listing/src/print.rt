@@ -22,7 +22,7 @@ use report::OverlapLog;
 use report::ProblemLog;
 use report::Report;
 ghost use mathlib.Core.Path.{_≡_};
-ghost use Prim.Native.Nat.{_%_, _^_, _≤_};
+ghost use Prim.Native.Nat.{_%_, _^_, min};
 ghost use Rattle.report.specs.Report.{logged};
 ghost use Rattle.totals.specs.Totals.{lostIn};
 
@@ -39,7 +39,7 @@ fn print_line(line: &[u8], length: usize) {
 
 // How many of those met a log names.
 fn named(total: u64) -> usize
-    ensures { λ r. ⌜ r ≤ logged ⌝ }
+    ensures { λ r. ⌜ r ≡ min total logged ⌝ }
 {
     if total < LOGGED as u64 {
         total as usize
