@@ -38,7 +38,7 @@ fn byte_at(s: &[u8], at: usize, k: usize) -> u64
 }
 
 // The number in the w bytes from at on, lowest first; bytes past the end count 0.
-fn number(s: &[u8], at: usize, w: usize) -> u64
+pub fn number(s: &[u8], at: usize, w: usize) -> u64
     requires { ⌜ w ≤ 8 ⌝ }
     ensures { λ r. ⌜ Number w (now (s .entry)) at r ⌝ }
 {

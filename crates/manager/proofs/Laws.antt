@@ -1,12 +1,16 @@
 -- Laws of a manager's bytes in place.
 use mathlib.Core.Path.{_≡_, refl, sym, ap, _∙_}
+use mathlib.Core.Bool.{true}
 use mathlib.Core.List.{List, []}
 use Prim.Native.Nat.{ℕ, zero, suc, _+_, _-_, _*_, _/_, _%_, _^_, _≤_, _<_}
 use native.Mathlib.Omega.{arith}
-use native.Mathlib.Nat.{lt-of-lt-of-le, mul-suc, mod-lt, add-mod}
-use lib.ListN.{length, getD, List·getD-eq-default, drop-of-length-le}
-use lib.Seq.{take-nil}
+use native.Mathlib.Nat.{lt-of-lt-of-le, mul-suc, mod-lt, add-mod, add-zero, mul-add-div-right, mul-add-mod-self-right, div-add-mod', div-eq-of-lt, mod-eq-of-lt}
+use lib.Dec.{leb}
+use lib.ListN.{length, take, drop, getD, length-take, length-drop, List·getD-eq-default, drop-of-length-le}
+use lib.Seq.{take-nil, getD-take, getD-drop, ext-getD}
 use lib.Pow.{pow-add, pow-mono}
+use borrow.Author.Tests.{leb-true}
+use Rattle.fields.specs.Fields.{Number, le, num}
 use Rattle.blocks.specs.Blocks.{blockOf}
 use Rattle.manager.specs.Place.{ringLength, ringIndex, addressIn, byteIn, bytesFrom, placed, bytesOf}
 use Rattle.manager.specs.declared.Manager.{Manager}
@@ -61,6 +65,29 @@ module _ (image : List ℕ) (size : ℕ) (m : Manager) (j : ℕ) (h : j < m .siz
   unfolding byteIn blockOf
   byte-none e = placed-there (blockOf image size) size m j h ∙ rw e refl
 
+-- a byte of the manager's block n
+module _ (f : ℕ → List ℕ) (size : ℕ) (m : Manager) where
+  pub byte-of : (n k : ℕ) → k < size → byteIn f size m (n * size + k) ≡ getD (f (addressIn m n)) k 0
+  unfolding byteIn
+  byte-of n k h = rw (mul-add-div-right {m = size} (omega arith) n k, div-eq-of-lt h, add-zero n, mul-add-mod-self-right n size k, mod-eq-of-lt h) refl
+
+-- a part within one block, of which no more bytes are there than the block size
+module _ (f : ℕ → List ℕ) (size : ℕ) (m : Manager) (pos l : ℕ) (b : List ℕ) (e : b ≡ f (addressIn m (pos / size)))
+    (most : length b ≤ size) (room : pos % size + l ≤ length b) (fits : pos + l ≤ m .size) where
+  pub piece-is : take l (drop (pos % size) b) ≡ take l (drop pos (placed f size m))
+  piece-is = ext-getD 0 _ _ (len ∙ sym len′) (λ i h. at i (omega (arith, len)))
+    where
+      len : length (take l (drop (pos % size) b)) ≡ l
+      len = simp (length-take, length-drop) (omega arith)
+
+      len′ : length (take l (drop pos (placed f size m))) ≡ l
+      len′ = simp (length-take, length-drop, placed-length) (omega arith)
+
+      at : (i : ℕ) → i < l → getD (take l (drop (pos % size) b)) i 0 ≡ getD (take l (drop pos (placed f size m))) i 0
+      at i h =
+          let e′ : pos / size * size + (pos % size + i) ≡ pos + i = omega (arith, div-add-mod' pos size) in
+          rw (getD-take l (drop (pos % size) b) i 0 h, getD-drop, getD-take l (drop pos (placed f size m)) i 0 h, getD-drop, placed-there f size m (pos + i) (omega arith), ← e′, byte-of f size m (pos / size) (pos % size + i) (omega arith), e) refl
+
 -- a block number past every byte of an image
 pub block-past : (image : List ℕ) (size n : ℕ) → length image ≤ n → [] ≡ blockOf image size n
 unfolding blockOf
@@ -80,3 +107,20 @@ more-fits w k v b h l fits small = rw (e, pow-add 2 (8 * (w - k)) 8) (omega arit
 -- a turn of the reader's loop finds at most seven bytes read
 pub room : (w k v : ℕ) → w ≤ 8 → 0 < k → v < 2 ^ (8 * (w - k)) → v < 2 ^ 56
 room w k v h l fits = lt-of-lt-of-le fits (pow-mono {j = 56} (omega arith))
+
+-- no block has more bytes than the block size
+block-most : (image : List ℕ) (size n : ℕ) → length (blockOf image size n) ≤ size
+unfolding blockOf
+block-most image size n = simp length-take (omega arith)
+
+-- a field within one block is the block's own
+pub number-in : (image : List ℕ) (size : ℕ) (m : Manager) (off w : ℕ) (b : List ℕ) (r : ℕ) → b ≡ blockOf image size (addressIn m (off / size))
+    → leb (off + w) (m .size) ≡ true → leb (off % size + w) (length b) ≡ true → Number w b (off % size) r → Number w (bytesOf image size m) off r
+unfolding num
+number-in image size m off w b r e inside room n = record { is = n .is ∙ ap le same; fits = n .fits }
+  where
+    most : length b ≤ size
+    most = rw e (block-most image size (addressIn m (off / size)))
+
+    same : take w (drop (off % size) b) ≡ take w (drop off (bytesOf image size m))
+    same = piece-is (blockOf image size) size m off w b e most (leb-true _ _ room) (leb-true _ _ inside)

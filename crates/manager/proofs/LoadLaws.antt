@@ -32,7 +32,7 @@ use Rattle.manager.specs.Manager.{managerFrom, managerAt, managerBy, man
 use Rattle.manager.specs.Place.{placeOf, addressIn, byteIn, placed, bytesOf}
 use Rattle.manager.specs.Load.{joined, IfThere, BlockGoes, BlocksGo, BlocksSeen, Stands, Piece, accepted}
 use Rattle.manager.specs.declared.Manager.{Manager}
-use Rattle.manager.proofs.Laws.{placed-length, placed-there}
+use Rattle.manager.proofs.Laws.{placed-length, placed-there, byte-of, piece-is}
 
 -- the number of blocks, rounded up
 
@@ -122,10 +122,6 @@ module _ (f : ℕ → List ℕ) (c : Container) (sb : List ℕ) (mp : Mapping) (
 -- the bytes of blocks that are all there
 
 module _ (f : ℕ → List ℕ) (size : ℕ) (m : Manager) where
-  byte-of : (n k : ℕ) → k < size → byteIn f size m (n * size + k) ≡ getD (f (addressIn m n)) k 0
-  unfolding byteIn
-  byte-of n k h = rw (mul-add-div-right {m = size} (omega arith) n k, div-eq-of-lt h, add-zero n, mul-add-mod-self-right n size k, mod-eq-of-lt h) refl
-
   joined-length : (n : ℕ) → ((i : ℕ) → i < n → length (f (addressIn m i)) ≡ size) → length (joined f m n) ≡ n * size
   unfolding joined
   joined-length zero there = omega arith
@@ -144,7 +140,7 @@ module _ (f : ℕ → List ℕ) (size : ℕ) (m : Manager) where
           let e′ : n * size + (j - n * size) ≡ j = omega arith in
           ap (λ (x : ℕ). getD (joined f m n ++ f (addressIn m n)) x 0) (sym e)
           ∙ getD-append-add (joined f m n) (f (addressIn m n)) (j - n * size) 0
-          ∙ sym (byte-of n (j - n * size) (omega (arith, suc-mul n size)))
+          ∙ sym (byte-of f size m n (j - n * size) (omega (arith, suc-mul n size)))
           ∙ ap (byteIn f size m) e′
 
   -- as many of them as the manager has
@@ -161,23 +157,9 @@ module _ (f : ℕ → List ℕ) (size : ℕ) (m : Manager) where
 
 module _ (f : ℕ → List ℕ) (size : ℕ) (m : Manager) (pos l : ℕ) (b : List ℕ) (e : b ≡ f (addressIn m (pos / size)))
     (there : length b ≡ size) (room : pos % size + l ≤ size) (fits : pos + l ≤ m .size) where
-  piece-is : take l (drop (pos % size) b) ≡ take l (drop pos (placed f size m))
-  piece-is = ext-getD 0 _ _ (len ∙ sym len′) (λ i h. at i (omega (arith, len)))
-    where
-      len : length (take l (drop (pos % size) b)) ≡ l
-      len = simp (length-take, length-drop) (omega arith)
-
-      len′ : length (take l (drop pos (placed f size m))) ≡ l
-      len′ = simp (length-take, length-drop, placed-length) (omega arith)
-
-      at : (i : ℕ) → i < l → getD (take l (drop (pos % size) b)) i 0 ≡ getD (take l (drop pos (placed f size m))) i 0
-      at i h =
-          let e′ : pos / size * size + (pos % size + i) ≡ pos + i = omega (arith, div-add-mod' pos size) in
-          rw (getD-take l (drop (pos % size) b) i 0 h, getD-drop, getD-take l (drop pos (placed f size m)) i 0 h, getD-drop, placed-there f size m (pos + i) (omega arith), ← e′, byte-of f size m (pos / size) (pos % size + i) (omega arith), e) refl
-
   pub piece-there : (r : List ℕ) → r ≡ take l (drop (pos % size) b) → 0 < l → l % 4 ≡ 0 → Piece (placed f size m) pos r
   piece-there r q some whole = record {
-    is = q ∙ piece-is ∙ ap (λ (n : ℕ). take n (drop pos (placed f size m))) (sym len);
+    is = q ∙ piece-is f size m pos l b e (omega arith) (omega arith) fits ∙ ap (λ (n : ℕ). take n (drop pos (placed f size m))) (sym len);
     some = omega (arith, len);
     whole = rw len whole;
     fits = omega (arith, len, placed-length f size m);

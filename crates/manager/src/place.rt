@@ -4,6 +4,7 @@ use blocks::Container;
 use checkpoint::superblock::TOP_BIT;
 ghost use mathlib.Core.Path.{_≡_};
 ghost use Prim.Native.Nat.{_+_, _<_, _≤_};
+ghost use lib.Dec.{leb};
 ghost use lib.ListN.{getD};
 ghost use Rattle.fields.specs.Fields.{Number};
 ghost use Rattle.blocks.specs.Blocks.{blockOf};
@@ -67,8 +68,8 @@ fn byte_in(image: &[u8], size: u64, m: Manager, off: u64, k: u64) -> u64
     wide(block[at])
 }
 
-// The number in the w bytes from off on, lowest first; bytes past the end count 0.
-pub(crate) fn number(image: &[u8], size: u64, m: Manager, off: u64, w: u64) -> u64
+// The same number byte by byte, wherever each stands.
+fn number_across(image: &[u8], size: u64, m: Manager, off: u64, w: u64) -> u64
     requires { ⌜ w ≤ 8 ⌝ }
     ensures { λ r. ⌜ Number w (bytesOf (now (image .entry)) size m) off r ⌝ }
 {
@@ -79,6 +80,37 @@ pub(crate) fn number(image: &[u8], size: u64, m: Manager, off: u64, w: u64) -> u
         v = v * 256 + byte_in(image, size, m, off, k);
     }
     v
+}
+
+// Whether w bytes from at on lie inside len bytes.
+fn fits(len: u64, at: u64, w: u64) -> bool
+    ensures { λ r. ⌜ r ≡ leb (at + w) len ⌝ }
+{
+    if len < w {
+        return false;
+    }
+    if len - w < at {
+        return false;
+    }
+    true
+}
+
+// The number in the w bytes from off on, lowest first; bytes past the end count 0. Most fields lie in one block.
+pub(crate) fn number(image: &[u8], size: u64, m: Manager, off: u64, w: u64) -> u64
+    requires { ⌜ w ≤ 8 ⌝ }
+    ensures { λ r. ⌜ Number w (bytesOf (now (image .entry)) size m) off r ⌝ }
+{
+    if size == 0 {
+        return number_across(image, size, m, off, w);
+    }
+    let block = ring_block(image, size, m, off / size);
+    let at = off % size;
+    if fits(m.size, off, w) {
+        if fits(block.len() as u64, at, w) {
+            return fields::number(block, at as usize, w as usize);
+        }
+    }
+    number_across(image, size, m, off, w)
 }
 
 pub fn u16_of(image: &[u8], container: Container, m: Manager, at: u64) -> u64

@@ -1,61 +1,57 @@
-use mathlib.Core.Path.{_≡_, sym, _∙_}
-use Prim.Native.Nat.{_+_, _-_, _*_, _^_, _≤_, _<_}
-use native.Mathlib.Omega.{arith}
-use native.Mathlib.Nat.{sub-self, sub-zero, add-zero}
+use mathlib.Core.Path.{sym, _∙_}
+use Rattle.manager.proofs.Laws.{number-in}
 use borrow.Author.Needs.{needs}
-use Rattle.manager.specs.Place.{bytesOf}
-use Rattle.fields.specs.Fields.{num}
-use Rattle.fields.proofs.Laws.{num-more, num-none}
-use Rattle.manager.proofs.Laws.{more-fits, room}
 use Rattle.manager.proofs.place.number.Statement.{statement}
 use Rattle.manager.proofs.place.number.Tie as tie
 
-abbrev Inv-loop : tie.InvT-loop
-Inv-loop image size m off w v₀ k₀ v k = (k ≤ w) × (v ≡ num (w - k) (bytesOf image size m) (off + k)) × (v < 2 ^ (8 * (w - k)))
+number-across-requires : tie.Need-number-across-requires
+number-across-requires c κs = search needs
 
-abbrev μ-loop : tie.MeasureT-loop
-μ-loop image size m off w v₀ k₀ v k = k
+returns : tie.Need-returns
+returns c = search needs
 
-loop-holds : tie.Need-loop-holds Inv-loop μ-loop
-loop-holds c = (search needs, rw sub-self (sym (num-none _ _)), rw sub-self (search needs))
+div-ring-block : tie.Need-div-ring-block
+div-ring-block c = search needs
 
-sub-k : tie.Need-sub-k Inv-loop μ-loop
-sub-k c = search needs
+ring-block-requires : tie.Need-ring-block-requires
+ring-block-requires c κs = search needs
 
-mul-v : tie.Need-mul-v Inv-loop μ-loop
-mul-v c = omega (arith, room _ _ _ (search needs) (c .loop-test .taken) (c .before .loop .inv .2))
+rem-at : tie.Need-rem-at
+rem-at c = search needs
 
-byte-in-requires : tie.Need-byte-in-requires Inv-loop μ-loop
-byte-in-requires c κs = search needs
+fits-requires : tie.Need-fits-requires
+fits-requires c κs = search needs
 
-add-v : tie.Need-add-v Inv-loop μ-loop
-add-v c = omega (arith, room _ _ _ (search needs) (c .before .loop-test .taken) (c .before .before .loop .inv .2))
+fits-requires-2 : tie.Need-fits-requires-2
+fits-requires-2 c κs = search needs
 
-loop-less : tie.Need-loop-less Inv-loop μ-loop
-loop-less c = search needs
+number-requires : tie.Need-number-requires
+number-requires c κs = search needs
 
-loop-again : tie.Need-loop-again Inv-loop μ-loop
-loop-again c =
-    let l = c .before .before in
-    let start = l .before .before .args in
-    (search needs, rw (num-more (bytesOf (start .image .now) (start .size) (start .m)) (start .off) (start .w) (l .loop .k) (c .before .loop-test .taken) (l .loop .inv .0)) (rw (l .loop .inv .1, c .byte-in .ensures .0)), more-fits _ _ _ _ (c .before .loop-test .taken) (l .loop .inv .0) (l .loop .inv .2) (c .byte-in .ensures .1))
+returns-2 : tie.Need-returns-2
+returns-2 c =
+    let in-block = c .before in
+    let in-manager = in-block .before .before in
+    number-in _ _ _ _ _ _ _ (in-manager .before .before .ring-block .ensures) (sym (in-manager .before .fits2 .ensures) ∙ in-manager .if2 .taken) (sym (in-block .before .fits3 .ensures) ∙ in-block .if3 .taken) (c .number .ensures)
 
-returns : tie.Need-returns Inv-loop μ-loop
-returns c =
-    let e : c .before .loop .k ≡ 0 = omega arith in
-    record { is = c .before .loop .inv .1 ∙ rw (e, sub-zero, add-zero); fits = rw (e, sub-zero) at (c .before .loop .inv .2) }
+number-across-requires-2 : tie.Need-number-across-requires-2
+number-across-requires-2 c κs = search needs
+
+returns-3 : tie.Need-returns-3
+returns-3 c = search needs
 
 pub number-spec : {M : Type 1} → statement M
 number-spec =
     tie.close
     (tie.spec
-    Inv-loop
-    μ-loop
-    loop-holds
-    sub-k
-    mul-v
-    byte-in-requires
-    add-v
-    loop-less
-    loop-again
-    returns)
+    number-across-requires
+    returns
+    div-ring-block
+    ring-block-requires
+    rem-at
+    fits-requires
+    fits-requires-2
+    number-requires
+    returns-2
+    number-across-requires-2
+    returns-3)

@@ -1,0 +1,18 @@
+use mathlib.Core.Path.{sym}
+use Prim.Native.Nat.{_+_}
+use native.Mathlib.Omega.{arith}
+use borrow.Author.Tests.{lt-leb, le-leb}
+use Rattle.manager.proofs.place.fits.Statement.{statement}
+use Rattle.manager.proofs.place.fits.Tie as tie
+
+returns : tie.Need-returns
+returns c = let a = c .before .args in sym (lt-leb (a .at + a .w) (a .len) (omega arith))
+
+returns-2 : tie.Need-returns-2
+returns-2 c = let a = c .before .before .args in sym (lt-leb (a .at + a .w) (a .len) (omega arith))
+
+returns-3 : tie.Need-returns-3
+returns-3 c = let a = c .before .before .args in sym (le-leb (a .at + a .w) (a .len) (omega arith))
+
+pub fits-spec : {M : Type 1} → statement M
+fits-spec = tie.close (tie.spec returns returns-2 returns-3)
