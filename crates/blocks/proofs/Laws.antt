@@ -118,6 +118,10 @@ pub raw-past : (f : ℕ → List ℕ) (c : Container) (a : Address) → c .count
 unfolding run readRaw need _>>=_
 raw-past f c a h = simp (le-ltb _ _ h)
 
+-- two numbers of half a word's width
+pub half-product : (a b : ℕ) → a < 2 ^ 32 → b < 2 ^ 32 → a * b < 2 ^ 64
+half-product a b h k = omega (arith, mul-le-mul-right {m = a} {n = 2 ^ 32} b (omega arith))
+
 -- a block number whose block would begin past the image's end
 pub begins-past : (len size n : ℕ) → 0 < size → len / size < n → len ≤ n * size
 begins-past len size n h k = omega (arith, div-lt-iff-lt-mul h .0 k)

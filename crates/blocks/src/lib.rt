@@ -76,8 +76,11 @@ pub fn number_of(r: Refusal) -> u8
     }
 }
 
-// Block n of an image; shorter, or empty, where the image ends before.
-pub fn block(image: &[u8], size: u64, n: u64) -> &[u8]
+// Numbers below this have a product below 2^64.
+const HALF_WIDE: u64 = 1 << 32;
+
+// The same for any number and size.
+fn far_block(image: &[u8], size: u64, n: u64) -> &[u8]
     ensures { λ r. ⌜ now r ≡ blockOf (now (image .entry)) size n ⌝ }
 {
     let len = image.len();
@@ -86,6 +89,20 @@ pub fn block(image: &[u8], size: u64, n: u64) -> &[u8]
     }
     if len as u64 / size < n {
         return fields::part_of(image, len, 0);
+    }
+    let start = n * size;
+    fields::part_of(image, start as usize, size as usize)
+}
+
+// Block n of an image; shorter, or empty, where the image ends before. A division is for numbers that no disk has.
+pub fn block(image: &[u8], size: u64, n: u64) -> &[u8]
+    ensures { λ r. ⌜ now r ≡ blockOf (now (image .entry)) size n ⌝ }
+{
+    if HALF_WIDE <= size {
+        return far_block(image, size, n);
+    }
+    if HALF_WIDE <= n {
+        return far_block(image, size, n);
     }
     let start = n * size;
     fields::part_of(image, start as usize, size as usize)

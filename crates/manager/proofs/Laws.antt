@@ -114,13 +114,14 @@ unfolding blockOf
 block-most image size n = simp length-take (omega arith)
 
 -- a field within one block is the block's own
-pub number-in : (image : List ℕ) (size : ℕ) (m : Manager) (off w : ℕ) (b : List ℕ) (r : ℕ) → b ≡ blockOf image size (addressIn m (off / size))
-    → leb (off + w) (m .size) ≡ true → leb (off % size + w) (length b) ≡ true → Number w b (off % size) r → Number w (bytesOf image size m) off r
+pub number-in : (image : List ℕ) (size : ℕ) (m : Manager) (off w index at : ℕ) (b : List ℕ) (r : ℕ) → index ≡ off / size → at ≡ off % size
+    → b ≡ blockOf image size (addressIn m index) → leb (off + w) (m .size) ≡ true → leb (at + w) (length b) ≡ true
+    → Number w b at r → Number w (bytesOf image size m) off r
 unfolding num
-number-in image size m off w b r e inside room n = record { is = n .is ∙ ap le same; fits = n .fits }
+number-in image size m off w index at b r p q e inside room n = record { is = n .is ∙ rw q (ap le same); fits = n .fits }
   where
     most : length b ≤ size
-    most = rw e (block-most image size (addressIn m (off / size)))
+    most = rw e (block-most image size (addressIn m index))
 
     same : take w (drop (off % size) b) ≡ take w (drop off (bytesOf image size m))
-    same = piece-is (blockOf image size) size m off w b e most (leb-true _ _ room) (leb-true _ _ inside)
+    same = piece-is (blockOf image size) size m off w b (rw (← p) e) most (leb-true _ _ (rw (← q) room)) (leb-true _ _ inside)

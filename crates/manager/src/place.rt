@@ -3,7 +3,7 @@ use crate::Manager;
 use blocks::Container;
 use checkpoint::superblock::TOP_BIT;
 ghost use mathlib.Core.Path.{_≡_};
-ghost use Prim.Native.Nat.{_+_, _<_, _≤_};
+ghost use Prim.Native.Nat.{_+_, _/_, _%_, _<_, _≤_};
 ghost use lib.Dec.{leb};
 ghost use lib.ListN.{getD};
 ghost use Rattle.fields.specs.Fields.{Number};
@@ -24,15 +24,30 @@ fn ring_length(stored: u64) -> u64
     if n == 0 { 1 } else { n }
 }
 
+// A remainder; most numbers are below the divisor already, and need no division.
+fn remainder(x: u64, n: u64) -> u64
+    requires { ⌜ 0 < n ⌝ }
+    ensures { λ r. ⌜ r ≡ x % n ⌝ }
+{
+    if x < n { x } else { x % n }
+}
+
+fn quotient(x: u64, n: u64) -> u64
+    requires { ⌜ 0 < n ⌝ }
+    ensures { λ r. ⌜ r ≡ x / n ⌝ }
+{
+    if x < n { 0 } else { x / n }
+}
+
 // Each part is reduced first, so that the sum does not wrap.
 pub(crate) fn ring_index(m: Manager, i: u64) -> u64
     ensures { λ r. ⌜ r ≡ ringIndex m i ⌝ }
 {
     let ring = ring_length(m.blocks);
     if m.at < m.base {
-        return i % ring;
+        return remainder(i, ring);
     }
-    ((m.at - m.base) % ring + i % ring) % ring
+    remainder(remainder(m.at - m.base, ring) + remainder(i, ring), ring)
 }
 
 // The manager's block i; empty where its address passes 2^64, since no image has such a block.
@@ -103,8 +118,8 @@ pub(crate) fn number(image: &[u8], size: u64, m: Manager, off: u64, w: u64) -> u
     if size == 0 {
         return number_across(image, size, m, off, w);
     }
-    let block = ring_block(image, size, m, off / size);
-    let at = off % size;
+    let block = ring_block(image, size, m, quotient(off, size));
+    let at = remainder(off, size);
     if fits(m.size, off, w) {
         if fits(block.len() as u64, at, w) {
             return fields::number(block, at as usize, w as usize);

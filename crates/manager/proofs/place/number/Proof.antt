@@ -10,14 +10,14 @@ number-across-requires c κs = search needs
 returns : tie.Need-returns
 returns c = search needs
 
-div-ring-block : tie.Need-div-ring-block
-div-ring-block c = search needs
+quotient-requires : tie.Need-quotient-requires
+quotient-requires c κs = search needs
 
 ring-block-requires : tie.Need-ring-block-requires
 ring-block-requires c κs = search needs
 
-rem-at : tie.Need-rem-at
-rem-at c = search needs
+remainder-requires : tie.Need-remainder-requires
+remainder-requires c κs = search needs
 
 fits-requires : tie.Need-fits-requires
 fits-requires c κs = search needs
@@ -32,7 +32,8 @@ returns-2 : tie.Need-returns-2
 returns-2 c =
     let in-block = c .before in
     let in-manager = in-block .before .before in
-    number-in _ _ _ _ _ _ _ (in-manager .before .before .ring-block .ensures) (sym (in-manager .before .fits2 .ensures) ∙ in-manager .if2 .taken) (sym (in-block .before .fits3 .ensures) ∙ in-block .if3 .taken) (c .number .ensures)
+    let placed = in-manager .before .before in
+    number-in _ _ _ _ _ _ _ _ _ (placed .before .before .quotient .ensures) (placed .remainder .ensures) (placed .before .ring-block .ensures) (sym (in-manager .before .fits2 .ensures) ∙ in-manager .if2 .taken) (sym (in-block .before .fits3 .ensures) ∙ in-block .if3 .taken) (c .number .ensures)
 
 number-across-requires-2 : tie.Need-number-across-requires-2
 number-across-requires-2 c κs = search needs
@@ -46,9 +47,9 @@ number-spec =
     (tie.spec
     number-across-requires
     returns
-    div-ring-block
+    quotient-requires
     ring-block-requires
-    rem-at
+    remainder-requires
     fits-requires
     fits-requires-2
     number-requires

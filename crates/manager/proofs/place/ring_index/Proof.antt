@@ -1,3 +1,4 @@
+use mathlib.Core.Path.{_∙_}
 use Rattle.manager.proofs.Laws.{ring-fits, ring-below, ring-sum}
 use borrow.Author.Needs.{needs}
 use Rattle.manager.proofs.place.ring_index.Statement.{statement}
@@ -6,36 +7,40 @@ use Rattle.manager.proofs.place.ring_index.Tie as tie
 ring-length-requires : tie.Need-ring-length-requires
 ring-length-requires c κs = search needs
 
-rem-result : tie.Need-rem-result
-rem-result c = search needs
+remainder-requires : tie.Need-remainder-requires
+remainder-requires c κs = search needs
 
 returns : tie.Need-returns
-returns c = ring-below (c .before .before .before .args .m) _ _ (c .before .before .ring-length .ensures) (c .if1 .taken)
+returns c = c .remainder .ensures ∙ ring-below (c .before .before .before .before .args .m) _ _ (c .before .before .before .ring-length .ensures) (c .before .if1 .taken)
 
-rem-result-2 : tie.Need-rem-result-2
-rem-result-2 c = search needs
+remainder-requires-2 : tie.Need-remainder-requires-2
+remainder-requires-2 c κs = search needs
 
-rem-result-3 : tie.Need-rem-result-3
-rem-result-3 c = search needs
+remainder-requires-3 : tie.Need-remainder-requires-3
+remainder-requires-3 c κs = search needs
 
-add-result : tie.Need-add-result
-add-result c = record { fits = ring-fits (c .before .before .before .before .args .m) _ _ (c .before .before .before .ring-length .ensures) _ }
+add-remainder : tie.Need-add-remainder
+add-remainder c =
+    let start = c .before .before .before .before .before in
+    record { fits = rw (c .before .remainder2 .ensures, c .remainder3 .ensures) (ring-fits (start .before .args .m) _ _ (start .ring-length .ensures) _) }
 
-rem-result-4 : tie.Need-rem-result-4
-rem-result-4 c = search needs
+remainder-requires-4 : tie.Need-remainder-requires-4
+remainder-requires-4 c κs = search needs
 
 returns-2 : tie.Need-returns-2
-returns-2 c = ring-sum (c .before .before .before .before .args .m) _ _ (c .before .before .before .ring-length .ensures)
+returns-2 c =
+    let start = c .before .before .before .before .before .before in
+    c .remainder4 .ensures ∙ rw (c .before .before .remainder2 .ensures, c .before .remainder3 .ensures) (ring-sum (start .before .args .m) _ _ (start .ring-length .ensures))
 
 pub ring-index-spec : {M : Type 1} → statement M
 ring-index-spec =
     tie.close
     (tie.spec
     ring-length-requires
-    rem-result
+    remainder-requires
     returns
-    rem-result-2
-    rem-result-3
-    add-result
-    rem-result-4
+    remainder-requires-2
+    remainder-requires-3
+    add-remainder
+    remainder-requires-4
     returns-2)
