@@ -7,7 +7,7 @@ use native.Mathlib.Numerals.{add-one}
 use native.Mathlib.Omega.{arith}
 use lib.Bits.{bitAnd, bitOr, or-add-and, or-shifted, and-high, and-mask}
 use lib.ListN.{length, getD, set, length-set}
-use lib.Seq.{drop-set-lt, set-getD}
+use lib.Seq.{drop-set-lt, set-getD, getD-set-other}
 use lib.Pow.{split, high-ones, mod-pow-add}
 use Rattle.block_map.specs.BlockMap.{Kept, withBit, ownedBy, update, cleared}
 
@@ -28,6 +28,10 @@ unfolding update
 update-set f a [] = refl
 update-set f zero (x ∷ map) = refl
 update-set f (suc a) (x ∷ map) = ap (λ (l : List ℕ). x ∷ l) (update-set f a map)
+
+-- the byte of another block
+pub update-other : (f : ℕ → ℕ) (a b : ℕ) (map : List ℕ) → (b ≡ a → ⊥) → getD (update f a map) b 0 ≡ getD map b 0
+update-other f a b map h = rw (update-set f a map) (getD-set-other map a b _ 0 h)
 
 -- from what a write, a change and a read ensure
 pub updated : (f : ℕ → ℕ) (a : ℕ) (map after : List ℕ) (x y : ℕ) → after ≡ set map a y → y ≡ f x → x ≡ getD map a 0 → after ≡ update f a map

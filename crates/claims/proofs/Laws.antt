@@ -56,7 +56,7 @@ outcome-then f p g (Refused r) a e = then-refused f p _ r (sym e)
 
 -- a block, by its cell x and owner there, and whether the claim takes it
 module _ (kind a : ℕ) (m : List ℕ) (l : OverlapLog) (x : ℕ) (is : x ≡ getD m a 0) (held : ℕ) (owns : held ≡ ownerOf x) (t : Bool) (q : t ≡ (eqb held unowned || eqb held kind)) (count : ℕ) where
-  taken : t ≡ true → (f : ℕ → List ℕ) → run f (claimBlock kind a (owned m l)) ≡ given (owned (update (ownedBy kind) a m) l)
+  pub taken : t ≡ true → (f : ℕ → List ℕ) → run f (claimBlock kind a (owned m l)) ≡ given (owned (update (ownedBy kind) a m) l)
   unfolding run claimBlock
   taken e f = rw (← is) (rw (← owns) (rw (← q) (rw e refl)))
 

@@ -1,2 +1,3 @@
 -- Laws of claims.
 pub mod Laws
+pub mod UnloggedLaws

@@ -23,6 +23,8 @@ ghost use Rattle.claims.specs.Claims.{claimBlock, claimFrom, claimNode, 
 ghost use Rattle.claims.specs.Claims.{claim as claimOf};
 ghost use Rattle.claims.specs.Answers.{owned, mappedAddress, ClaimedAs};
 
+pub mod unlogged;
+
 // Kinds of claimants.
 pub const CONTAINER_SUPERBLOCK: u8 = 1;
 
@@ -59,13 +61,13 @@ pub struct Claimed {
 }
 
 // Whether a claim of a kind takes a block: one that nothing claimed, or that its own kind holds.
-fn takes(kind: u8, held: u8) -> bool
+pub(crate) fn takes(kind: u8, held: u8) -> bool
     ensures { λ r. ⌜ r ≡ (eqb held unowned || eqb held kind) ⌝ }
 {
     held == UNOWNED || held == kind
 }
 
-fn least(a: u64, b: u64) -> u64
+pub(crate) fn least(a: u64, b: u64) -> u64
     ensures { λ r. ⌜ r ≡ min a b ⌝ }
 {
     if a < b { a } else { b }
@@ -158,7 +160,7 @@ pub fn claim_node(map: &mut [u8], container: Container, a: Address, log: Overlap
 }
 
 // A mapping's address; its key's fields must exist too.
-fn mapped_address(node: &[u8], key: Part, value: Part) -> Got
+pub(crate) fn mapped_address(node: &[u8], key: Part, value: Part) -> Got
     ensures { λ r. ⌜ ((f : ℕ → List ℕ) → gotAs r ≡ run f (mappedAddress (partIn (now (node .entry)) key) (partIn (now (node .entry)) value))) ⌝ }
 {
     let id = queue::field_in(node, key, ID);
