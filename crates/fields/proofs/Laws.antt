@@ -3,13 +3,13 @@ use mathlib.Core.Path.{_≡_, refl, sym, ap, _∙_}
 use mathlib.Core.Bool.{Bool, false, _&&_}
 use mathlib.Core.List.{List, [], _∷_}
 use Prim.Native.Nat.{ℕ, zero, suc, _+_, _-_, _*_, _/_, _%_, _^_, _≤_, _<_}
-use native.Mathlib.Nat.{lt-of-lt-of-le, zero-div}
+use native.Mathlib.Nat.{lt-of-lt-of-le, zero-div, add-zero, mul-le-mul-right}
 use native.Mathlib.Omega.{arith}
 use lib.Bits.{bitAnd, and-mask}
 use lib.Dec.{eqb, ltb}
 use lib.ListN.{length, getD, take, drop, length-drop, drop-of-length-le, List·getD-eq-default}
 use lib.Seq.{drop-nil, take-nil, take-all}
-use lib.Pow.{pow-add, pow-mono}
+use lib.Pow.{pow-add, pow-mono, pow-pos, shl-exact}
 use borrow.Author.Tests.{le-leb, lt-leb, lt-ltb, le-ltb}
 use Rattle.fields.specs.Fields.{Number, FieldOf, le, num, fieldAt, bit, bitAt}
 use Rattle.fields.specs.declared.Field.{Field}
@@ -39,17 +39,36 @@ num-more b off w k h l = rw e (num-step (w - k) b (off + (k - 1)) ∙ rw p refl)
     p : suc (off + (k - 1)) ≡ off + k
     p = omega arith
 
--- w bytes hold a number below 2 ^ (8 w)
-pub num-fits : (b : List ℕ) → ((i : ℕ) → getD b i 0 < 256) → (w off : ℕ) → num w b off < 2 ^ (8 * w)
-num-fits b small zero off = omega (arith, num-none b off)
-num-fits b small (suc w) off = rw (e, pow-add 2 (8 * w) 8, num-step w b off) (omega (arith, num-fits b small w (suc off), small off))
+-- one byte more, above the others
+num-above : (k : ℕ) (b : List ℕ) (off : ℕ) → num (suc k) b off ≡ num k b off + getD b (off + k) 0 * 2 ^ (8 * k)
+num-above zero b off = rw (num-step 0 b off, num-none b off, num-none b (suc off), add-zero) (omega arith)
+num-above (suc k) b off = rw (num-step (suc k) b off, num-above k b (suc off), num-step k b off, e, p, pow-add 2 (8 * k) 8) (omega arith)
   where
-    e : 8 * suc w ≡ 8 * w + 8
+    e : off + suc k ≡ suc off + k
     e = omega arith
 
--- a turn of the reader's loop finds at most seven bytes read
-pub num-room : (b : List ℕ) → ((i : ℕ) → getD b i 0 < 256) → (w k off : ℕ) → w ≤ 8 → 0 < k → num (w - k) b off < 2 ^ 56
-num-room b small w k off h l = lt-of-lt-of-le (num-fits b small (w - k) off) (pow-mono {j = 56} (omega arith))
+    p : 8 * suc k ≡ 8 * k + 8
+    p = omega arith
+
+-- a turn of the reader's loop: a byte shifted above the k before it
+module _ (b : List ℕ) (off k v x : ℕ) (below : k < 8) (so-far : Number k b off v) (byte : x ≡ getD b (off + k) 0) (small : x < 256) where
+  whole-byte : x * 2 ^ (8 * k) % 2 ^ 64 ≡ x * 2 ^ (8 * k)
+  whole-byte = shl-exact {a = x} 8 (8 * k) 64 small (omega arith)
+
+  grown : v + x * 2 ^ (8 * k) < 2 ^ (8 * (k + 1))
+  grown = rw (e, pow-add 2 (8 * k) 8) (omega (arith, so-far .fits, mul-le-mul-right (2 ^ (8 * k)) small))
+    where
+      e : 8 * (k + 1) ≡ 8 * k + 8
+      e = omega arith
+
+  pub above-fits : v + x * 2 ^ (8 * k) % 2 ^ 64 < 2 ^ 64
+  above-fits = rw whole-byte (lt-of-lt-of-le grown (pow-mono {j = 64} (omega arith)))
+
+  pub byte-above : Number (k + 1) b off (v + x * 2 ^ (8 * k) % 2 ^ 64)
+  byte-above = record { is = rw (whole-byte, so-far .is, byte, next) (sym (num-above k b off)); fits = rw whole-byte grown }
+    where
+      next : k + 1 ≡ suc k
+      next = omega arith
 
 pub field-there : (w : ℕ) (b : List ℕ) (off : ℕ) → off + w ≤ length b → fieldAt w b off ≡ Value (num w b off)
 unfolding fieldAt
@@ -87,6 +106,16 @@ part-past b m n k len p q = rw (drop-of-length-le b p, drop-of-length-le b q, ta
 -- two lengths that both reach the end
 pub part-rest : (b : List ℕ) (start m len : ℕ) → length b - start ≤ m → length b - start ≤ len → take m (drop start b) ≡ take len (drop start b)
 part-rest b start m len p q = take-all m (drop start b) (rw length-drop p) ∙ sym (take-all len (drop start b) (rw length-drop q))
+
+-- the number of bytes that aren't all there: those past the end count 0
+module _ (w : ℕ) (b : List ℕ) (off : ℕ) where
+  pub number-past : length b ≤ off → Number w b off 0
+  unfolding num le
+  number-past h = record { is = rw (drop-of-length-le b h, take-nil) refl; fits = pow-pos (8 * w) }
+
+  pub number-rest : (r : ℕ) → length b - off ≤ w → Number (length b - off) b off r → Number w b off r
+  unfolding num
+  number-rest r h n = record { is = n .is ∙ ap le (part-rest b off (length b - off) w (omega arith) h); fits = lt-of-lt-of-le (n .fits) (pow-mono (omega arith)) }
 
 -- what a reader of a field answers
 

@@ -1,7 +1,7 @@
 // Little-endian fields of a part of an image (bytes.rs), the header of an object (obj.rs), and bits.
 ghost use mathlib.Core.Path.{_≡_};
 ghost use Prim.Native.Nat.{_+_, _<_, _≤_};
-ghost use lib.ListN.{getD, take, drop};
+ghost use lib.ListN.{length, take, drop};
 ghost use Rattle.fields.specs.Fields.{Number, FieldOf, bitAt};
 ghost use Rattle.fields.specs.Header.{storedChecksum, xidOf, kindOf};
 
@@ -24,31 +24,34 @@ fn wide(x: u8) -> u64
     x as u64
 }
 
-// The byte k places after at, or 0 past the end.
-fn byte_at(s: &[u8], at: usize, k: usize) -> u64
-    ensures { λ r. ⌜ (r ≡ getD (now (s .entry)) (at + k) 0) × (r < 256) ⌝ }
+// The number in w bytes that lie inside, lowest first. Where w is a constant, compilers make one load of this loop.
+fn inside(s: &[u8], at: usize, w: usize) -> u64
+    requires { ⌜ (w ≤ 8) × (at + w ≤ length (now s)) ⌝ }
+    ensures { λ r. ⌜ Number w (now (s .entry)) at r ⌝ }
 {
-    let n = s.len();
-    if at < n {
-        if k < n - at {
-            return wide(s[at + k]);
-        }
+    let mut v: u64 = 0;
+    let mut k = 0;
+    while k < w {
+        v = v + (wide(s[at + k]) << (8 * k));
+        k += 1;
     }
-    0
+    v
 }
 
-// The number in the w bytes from at on, lowest first; bytes past the end count 0.
+// The number in the w bytes from at on; bytes past the end count 0.
 pub fn number(s: &[u8], at: usize, w: usize) -> u64
     requires { ⌜ w ≤ 8 ⌝ }
     ensures { λ r. ⌜ Number w (now (s .entry)) at r ⌝ }
 {
-    let mut v: u64 = 0;
-    let mut k = w;
-    while 0 < k {
-        k -= 1;
-        v = v * 256 + byte_at(s, at, k);
+    let n = s.len();
+    if n <= at {
+        return 0;
     }
-    v
+    let left = n - at;
+    if left < w {
+        return inside(s, at, left);
+    }
+    inside(s, at, w)
 }
 
 pub fn u16_of(s: &[u8], at: usize) -> u64
@@ -77,7 +80,7 @@ fn field_at(s: &[u8], at: usize, w: usize) -> Field
     let n = s.len();
     if w <= n {
         if at <= n - w {
-            return Field::Value(number(s, at, w));
+            return Field::Value(inside(s, at, w));
         }
     }
     Field::Absent

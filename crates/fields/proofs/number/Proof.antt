@@ -1,68 +1,27 @@
-use Rattle.fields.proofs.Laws.{num-more, num-none, num-room, num-fits}
-use Rattle.fields.specs.Fields.{num}
-use borrow.Author.Needs.{needs}
-use native.Mathlib.Nat.{sub-self, sub-zero, add-zero}
+use Rattle.fields.proofs.Laws.{number-past, number-rest}
 use native.Mathlib.Omega.{arith}
-use Prim.Native.Nat.{_+_, _-_, _^_, _≤_, _<_}
-use mathlib.Core.Path.{_≡_, sym, _∙_}
+use borrow.Author.Needs.{needs}
 use Rattle.fields.proofs.number.Statement.{statement}
 use Rattle.fields.proofs.number.Tie as tie
-use Rattle.fields.proofs.number.Reads as reads
-use Rattle.fields.proofs.number.Lts as lts
-use Rattle.fields.proofs.byte_at.Reads as byte-at-reads
 
-abbrev Inv-loop : tie.InvT-loop
-Inv-loop s at w v₀ k₀ v k = (k ≤ w) × (v ≡ num (w - k) s (at + k))
+returns : tie.Need-returns
+returns c = number-past _ _ _ (omega arith)
 
-abbrev μ-loop : tie.MeasureT-loop
-μ-loop s at w v₀ k₀ v k = k
+sub-left : tie.Need-sub-left
+sub-left c = search needs
 
-loop-holds : tie.Need-loop-holds Inv-loop μ-loop
-loop-holds c = (search needs, rw sub-self (sym (num-none _ _)))
+inside-requires : tie.Need-inside-requires
+inside-requires c κs = search needs
 
-sub-k : tie.Need-sub-k Inv-loop μ-loop
-sub-k c = search needs
+returns-2 : tie.Need-returns-2
+returns-2 c = number-rest _ _ _ _ (omega arith) (c .inside .ensures)
 
--- before a turn at most seven bytes are read
-small-so-far : (c : lts.In-loop (byte-at-reads.Asked, byte-at-reads.Learnt) reads.Pre reads.Post Inv-loop μ-loop) → c .before .loop .v < 2 ^ 56
-small-so-far c =
-    let start = c .before .before .before in
-    rw (c .before .loop .inv .1) (num-room (start .args .s .now) (λ i. omega (arith, c .before .before .shared-slice-known .given i)) (start .args .w) (c .before .loop .k) _ (start .pre) (c .loop-test .taken))
+inside-requires-2 : tie.Need-inside-requires-2
+inside-requires-2 c κs = search needs
 
-mul-v : tie.Need-mul-v Inv-loop μ-loop
-mul-v c = omega (arith, small-so-far c)
-
-byte-at-requires : tie.Need-byte-at-requires Inv-loop μ-loop
-byte-at-requires c κs = search needs
-
-add-v : tie.Need-add-v Inv-loop μ-loop
-add-v c = omega (arith, small-so-far (c .before))
-
-loop-less : tie.Need-loop-less Inv-loop μ-loop
-loop-less c = search needs
-
-loop-again : tie.Need-loop-again Inv-loop μ-loop
-loop-again c =
-    let l = c .before .before in
-    (search needs, rw (num-more (l .before .before .args .s .now) (l .before .before .args .at) (l .before .before .args .w) (l .loop .k) (c .before .loop-test .taken) (l .loop .inv .0)) (rw (l .loop .inv .1, c .byte-at .ensures .0)))
-
-whole : (c : lts.After-loop (byte-at-reads.Asked, byte-at-reads.Learnt) reads.Pre reads.Post Inv-loop μ-loop) → c .before .loop .v ≡ num (c .before .before .before .args .w) (c .before .before .before .args .s .now) (c .before .before .before .args .at)
-whole c = let e : c .before .loop .k ≡ 0 = omega arith in c .before .loop .inv .1 ∙ rw (e, sub-zero, add-zero)
-
-returns : tie.Need-returns Inv-loop μ-loop
-returns c = record { is = whole c; fits = rw (whole c) (num-fits (c .before .before .before .args .s .now) (λ i. omega (arith, c .before .before .shared-slice-known .given i)) _ _) }
+returns-3 : tie.Need-returns-3
+returns-3 c = search needs
 
 pub number-spec : {M : Type 1} → statement M
 number-spec =
-    tie.close
-    (tie.spec
-    Inv-loop
-    μ-loop
-    loop-holds
-    sub-k
-    mul-v
-    byte-at-requires
-    add-v
-    loop-less
-    loop-again
-    returns)
+    tie.close (tie.spec returns sub-left inside-requires returns-2 inside-requires-2 returns-3)
