@@ -76,11 +76,23 @@ pub fn number_of(r: Refusal) -> u8
     }
 }
 
+// The container's image as it is lent, and the size of its blocks. Every block of a pass is read through it.
+pub struct Reader<'a> {
+    pub image: &'a [u8],
+    pub size: u64,
+}
+
+// Whether a block may be read: what is read is `block`.
+pub enum Seen {
+    There,
+    Refused(Refusal),
+}
+
 // Numbers below this have a product below 2^64.
 const HALF_WIDE: u64 = 1 << 32;
 
-// The same for any number and size.
-fn far_block(image: &[u8], size: u64, n: u64) -> &[u8]
+// Block n of an image for any number and size; shorter, or empty, where the image ends before.
+fn far_block_in(image: &[u8], size: u64, n: u64) -> &[u8]
     ensures { λ r. ⌜ now r ≡ blockOf (now (image .entry)) size n ⌝ }
 {
     let len = image.len();
@@ -94,24 +106,64 @@ fn far_block(image: &[u8], size: u64, n: u64) -> &[u8]
     fields::part_of(image, start as usize, size as usize)
 }
 
-// Block n of an image; shorter, or empty, where the image ends before. A division is for numbers that no disk has.
-pub fn block(image: &[u8], size: u64, n: u64) -> &[u8]
+// The same; the division is for numbers that no disk has.
+fn block_in(image: &[u8], size: u64, n: u64) -> &[u8]
     ensures { λ r. ⌜ now r ≡ blockOf (now (image .entry)) size n ⌝ }
 {
     if HALF_WIDE <= size {
-        return far_block(image, size, n);
+        return far_block_in(image, size, n);
     }
     if HALF_WIDE <= n {
-        return far_block(image, size, n);
+        return far_block_in(image, size, n);
     }
     let start = n * size;
     fields::part_of(image, start as usize, size as usize)
 }
 
-// Whether a block may be read: what is read is `block`.
-pub enum Seen {
-    There,
-    Refused(Refusal),
+// An object that must verify, in an image whose blocks have a size.
+fn object_in(image: &[u8], size: u64, container: Container, a: Address) -> Seen
+    ensures { λ r. ⌜ seenAs (blockOf (now (image .entry)) size (a .0)) r ≡ run (blockOf (now (image .entry)) size) (readObject container a) ⌝ }
+{
+    let n = a.0;
+    if n == 0 {
+        return Seen::Refused(Refusal::PastContainer);
+    }
+    if container.count <= n {
+        return Seen::Refused(Refusal::PastContainer);
+    }
+    let object = block_in(image, size, n);
+    if fletcher::verify(object) {
+        Seen::There
+    } else {
+        Seen::Refused(Refusal::BadChecksum)
+    }
+}
+
+impl<'a> Reader<'a> {
+    pub fn over(image: &'a [u8], size: u64) -> Reader<'a>
+        ensures { λ r. ⌜ (r .image ≡ image .entry) × (r .size ≡ size) ⌝ }
+    {
+        Reader { image, size }
+    }
+
+    pub fn block(self, n: u64) -> &'a [u8]
+        ensures { λ b. ⌜ now b ≡ blockOf (now (self .entry .image)) (self .entry .size) n ⌝ }
+    {
+        block_in(self.image, self.size, n)
+    }
+
+    pub fn object(self, container: Container, a: Address) -> Seen
+        ensures { λ s. ⌜ seenAs (blockOf (now (self .entry .image)) (self .entry .size) (a .0)) s ≡ run (blockOf (now (self .entry .image)) (self .entry .size)) (readObject container a) ⌝ }
+    {
+        object_in(self.image, self.size, container, a)
+    }
+}
+
+// Block n of an image.
+pub fn block(image: &[u8], size: u64, n: u64) -> &[u8]
+    ensures { λ r. ⌜ now r ≡ blockOf (now (image .entry)) size n ⌝ }
+{
+    Reader::over(image, size).block(n)
 }
 
 // A block as it is.
@@ -129,19 +181,7 @@ pub fn raw_block(container: Container, a: Address) -> Seen
 pub fn object_block(image: &[u8], container: Container, a: Address) -> Seen
     ensures { λ r. ⌜ seenAs (blockOf (now (image .entry)) (container .size) (a .0)) r ≡ run (blockOf (now (image .entry)) (container .size)) (readObject container a) ⌝ }
 {
-    let n = a.0;
-    if n == 0 {
-        return Seen::Refused(Refusal::PastContainer);
-    }
-    if container.count <= n {
-        return Seen::Refused(Refusal::PastContainer);
-    }
-    let object = block(image, container.size, n);
-    if fletcher::verify(object) {
-        Seen::There
-    } else {
-        Seen::Refused(Refusal::BadChecksum)
-    }
+    Reader::over(image, container.size).object(container, a)
 }
 
 pub enum Added {

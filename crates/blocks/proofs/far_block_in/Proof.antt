@@ -6,8 +6,8 @@ use Rattle.fields.proofs.Laws.{part-past}
 use native.Mathlib.Omega.{arith}
 use mathlib.Core.Path.{_∙_}
 use borrow.Author.Needs.{needs}
-use Rattle.blocks.proofs.far_block.Statement.{statement}
-use Rattle.blocks.proofs.far_block.Tie as tie
+use Rattle.blocks.proofs.far_block_in.Statement.{statement}
+use Rattle.blocks.proofs.far_block_in.Tie as tie
 
 part-of-requires : tie.Need-part-of-requires
 part-of-requires c κs = search needs
@@ -39,8 +39,8 @@ returns-3 : tie.Need-returns-3
 unfolding blockOf
 returns-3 c = c .part-of3 .ensures
 
-pub far-block-spec : {M : Type 1} → statement M
-far-block-spec =
+pub far-block-in-spec : {M : Type 1} → statement M
+far-block-in-spec =
     tie.close
     (tie.spec
     part-of-requires
