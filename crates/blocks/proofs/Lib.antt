@@ -1,2 +1,3 @@
--- Laws of passes.
+-- Laws of passes, and of a reader's walks.
 pub mod Laws
+mod Lent
