@@ -76,7 +76,7 @@ pub fn number_of(r: Refusal) -> u8
     }
 }
 
-// The container's image as it is lent, and the size of its blocks. Every block of a pass is read through it.
+// The image as it is lent, and the size of its blocks. Once the size is known, every block is read through a reader.
 pub struct Reader<'a> {
     pub image: &'a [u8],
     pub size: u64,
@@ -159,7 +159,7 @@ impl<'a> Reader<'a> {
     }
 }
 
-// Block n of an image.
+// Block n of an image, as a reader gives it.
 pub fn block(image: &[u8], size: u64, n: u64) -> &[u8]
     ensures { λ r. ⌜ now r ≡ blockOf (now (image .entry)) size n ⌝ }
 {
@@ -177,7 +177,7 @@ pub fn raw_block(container: Container, a: Address) -> Seen
     }
 }
 
-// An object that must verify.
+// An object that must verify, as a reader gives it.
 pub fn object_block(image: &[u8], container: Container, a: Address) -> Seen
     ensures { λ r. ⌜ seenAs (blockOf (now (image .entry)) (container .size) (a .0)) r ≡ run (blockOf (now (image .entry)) (container .size)) (readObject container a) ⌝ }
 {
