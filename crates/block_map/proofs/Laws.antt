@@ -7,7 +7,7 @@ use native.Mathlib.Numerals.{add-one}
 use native.Mathlib.Omega.{arith}
 use lib.Bits.{bitAnd, bitOr, or-add-and, or-shifted, and-high, and-mask}
 use lib.ListN.{length, getD, set, length-set}
-use lib.Seq.{drop-set-lt, set-getD, getD-set-other}
+use lib.Seq.{drop-set-lt, getD-set-other}
 use lib.Pow.{split, high-ones, mod-pow-add}
 use Rattle.block_map.specs.BlockMap.{Kept, withBit, ownedBy, update, cleared}
 
@@ -52,15 +52,11 @@ pub kept-cleared : (count : ℕ) (before after : List ℕ) → Kept count before
 unfolding cleared
 kept-cleared count before after h = rw (h .past) refl
 
--- one byte more zeroed: written, or 0 already
+-- one byte more zeroed
 cleared-suc : (i : ℕ) (map : List ℕ) → i < length map → set (cleared i map) i 0 ≡ cleared (suc i) map
 unfolding cleared
 cleared-suc zero (x ∷ map) h = refl
 cleared-suc (suc i) (x ∷ map) h = ap (λ (l : List ℕ). 0 ∷ l) (cleared-suc i map (omega arith))
 
-module _ (i : ℕ) (before map : List ℕ) (e : map ≡ cleared i before) (h : i < length before) where
-  pub cleared-set : set map i 0 ≡ cleared (i + 1) before
-  cleared-set = rw (e, add-one) (cleared-suc i before h)
-
-  pub cleared-skip : getD map i 0 ≡ 0 → map ≡ cleared (i + 1) before
-  cleared-skip z = sym (set-getD map i 0) ∙ rw z cleared-set
+pub cleared-set : (i : ℕ) (before map : List ℕ) → map ≡ cleared i before → i < length before → set map i 0 ≡ cleared (i + 1) before
+cleared-set i before map e h = rw (e, add-one) (cleared-suc i before h)

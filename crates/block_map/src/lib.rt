@@ -1,9 +1,13 @@
 // The block map: a byte for each block, bits 0 to 3 its owner, bit 4 marked, bit 5 used in the pool.
 use blocks::Container;
 ghost use mathlib.Core.Path.{_≡_};
-ghost use Prim.Native.Nat.{_%_, _≤_};
-ghost use lib.ListN.{length, getD, set};
+ghost use Prim.Native.Nat.{_%_, _≤_, max};
+ghost use lib.ListN.{length, getD, set, replicate};
 ghost use Rattle.block_map.specs.BlockMap.{ownerOf, isMarked, isUsed, marked, used, ownedBy, update, usedAt, cleared};
+ghost use Rattle.block_map.specs.Rows.{greatestIn, itself, allZero};
+
+// How many bytes are looked at together.
+const ROW: usize = 256;
 
 pub fn owner(x: u8) -> u8
     ensures { λ r. ⌜ r ≡ ownerOf x ⌝ }
@@ -96,15 +100,52 @@ pub fn used_at(map: &[u8], c: Container, a: u64) -> bool
     }
 }
 
-// Zeroes each block's byte. One that is 0 isn't written: a page never written costs no memory.
+pub fn greater(g: u8, x: u8) -> u8
+    ensures { λ r. ⌜ r ≡ max g x ⌝ }
+{
+    if g < x { x } else { g }
+}
+
+// With no other test than the maximum's, so that many bytes are compared at once.
+fn greatest(row: &[u8]) -> u8
+    ensures { λ r. ⌜ r ≡ greatestIn itself (now (row .entry)) 0 ⌝ }
+{
+    let mut g = 0;
+    for i in 0..row.len() {
+        g = greater(g, row[i]);
+    }
+    g
+}
+
+pub fn is_zero(row: &[u8]) -> bool
+    ensures { λ r. ⌜ r ≡ allZero (now (row .entry)) ⌝ }
+{
+    greatest(row) == 0
+}
+
+// Zeroes a row. One that is 0 isn't written: a page never written costs no memory.
+fn clear_row(row: &mut [u8])
+    ensures { λ r. ⌜ now (row .exit) ≡ replicate (length (now (row .entry))) 0 ⌝ }
+{
+    if is_zero(row) {
+        return;
+    }
+    for i in 0..row.len() {
+        row[i] = 0;
+    }
+}
+
+// Zeroes each block's byte.
 pub fn clear(map: &mut [u8], count: u64)
     requires { ⌜ count ≤ length (now map) ⌝ }
     ensures { λ r. ⌜ now (map .exit) ≡ cleared count (now (map .entry)) ⌝ }
 {
     let end = count as usize;
-    for i in 0..end {
-        if map[i] != 0 {
-            map[i] = 0;
-        }
+    let mut at = 0;
+    while ROW <= end - at {
+        let next = at + ROW;
+        clear_row(&mut map[at..next]);
+        at = next;
     }
+    clear_row(&mut map[at..end]);
 }

@@ -1,51 +1,63 @@
-use mathlib.Core.Logic.{⊎-elim}
-use mathlib.Core.Path.{_≡_, refl, ap, _∙_}
-use Prim.Native.Nat.{_≤_, _<_, _-_}
-use lib.ListN.{length, length-set}
+use mathlib.Core.Path.{_≡_, refl, sym, _∙_}
+use Prim.Native.Nat.{_≤_, _-_}
+use lib.ListN.{length}
 use borrow.Author.Needs.{needs}
 use Rattle.block_map.specs.BlockMap.{cleared}
-use Rattle.block_map.proofs.Laws.{cleared-set, cleared-skip}
+use Rattle.block_map.proofs.Rows.{row-cleared}
 use Rattle.block_map.proofs.clear.Statement.{statement}
 use Rattle.block_map.proofs.clear.Tie as tie
 
 abbrev Inv-loop : tie.InvT-loop
-Inv-loop map₀ count end i₀ map i = (i ≤ count) × (length map ≡ length map₀) × (map ≡ cleared i map₀)
+Inv-loop map₀ count end at₀ map at = (at ≤ count) × (length map ≡ length map₀) × (map ≡ cleared at map₀)
 
 abbrev μ-loop : tie.MeasureT-loop
-μ-loop map₀ count end i₀ map i = count - i
+μ-loop map₀ count end at₀ map at = count - at
 
 loop-holds : tie.Need-loop-holds Inv-loop μ-loop
 unfolding cleared
 loop-holds c = (search needs, refl, refl)
 
-slice-read-if1 : tie.Need-slice-read-if1 Inv-loop μ-loop
-slice-read-if1 c = search needs
+sub-loop : tie.Need-sub-loop Inv-loop μ-loop
+sub-loop c = search needs
 
-slice-write-map : tie.Need-slice-write-map Inv-loop μ-loop
-slice-write-map c = search needs
+add-next : tie.Need-add-next Inv-loop μ-loop
+add-next c = search needs
 
-add-i : tie.Need-add-i Inv-loop μ-loop
-add-i c = search needs
+sub-clear-row : tie.Need-sub-clear-row Inv-loop μ-loop
+sub-clear-row c = search needs
+
+part-clear-row-start : tie.Need-part-clear-row-start Inv-loop μ-loop
+part-clear-row-start c = search needs
+
+part-clear-row-end : tie.Need-part-clear-row-end Inv-loop μ-loop
+part-clear-row-end c = search needs
+
+clear-row-requires : tie.Need-clear-row-requires Inv-loop μ-loop
+clear-row-requires c κs = search needs
 
 loop-less : tie.Need-loop-less Inv-loop μ-loop
 loop-less c = search needs
 
 loop-again : tie.Need-loop-again Inv-loop μ-loop
-loop-again c =
-    let inv = c .before .before .before .loop .inv in
-    let h : c .before .before .before .loop .i < length (c .before .before .before .before .args .map .now) = search needs in (
-      search needs,
-      ⊎-elim (λ w. ap length (w .1) ∙ simp length-set (inv .1)) (λ w. ap length (w .1) ∙ inv .1) (c .if1 .came),
-      ⊎-elim (λ w. w .1 ∙ cleared-set _ _ _ (inv .2) h) (λ w. w .1 ∙ cleared-skip _ _ _ (inv .2) h (w .0 .left)) (c .if1 .came),
-    )
+loop-again c = (search needs, search needs, row-cleared _ _ _ _ _ (search needs) (search needs) (c .before .before .before .before .before .loop .inv .2) (c .before .before .clear-row .ensures))
+
+sub-clear-row-2 : tie.Need-sub-clear-row-2 Inv-loop μ-loop
+sub-clear-row-2 c = search needs
+
+part-clear-row-start-2 : tie.Need-part-clear-row-start-2 Inv-loop μ-loop
+part-clear-row-start-2 c = search needs
+
+part-clear-row-end-2 : tie.Need-part-clear-row-end-2 Inv-loop μ-loop
+part-clear-row-end-2 c = search needs
+
+clear-row-requires-2 : tie.Need-clear-row-requires-2 Inv-loop μ-loop
+clear-row-requires-2 c κs = search needs
 
 same-length : tie.Need-same-length Inv-loop μ-loop
-same-length c = c .before .loop .inv .1
+same-length c = search needs
 
 returns : tie.Need-returns Inv-loop μ-loop
-returns c =
-    let e : c .before .loop .i ≡ c .before .before .args .count = search needs in
-    c .before .loop .inv .2 ∙ rw e refl
+returns c = row-cleared _ _ _ _ _ (search needs) (search needs) (c .before .before .before .before .before .loop .inv .2) (c .before .before .clear-row2 .ensures)
 
 pub clear-spec : {M : Type 1} → statement M
 clear-spec =
@@ -54,10 +66,17 @@ clear-spec =
     Inv-loop
     μ-loop
     loop-holds
-    slice-read-if1
-    slice-write-map
-    add-i
+    sub-loop
+    add-next
+    sub-clear-row
+    part-clear-row-start
+    part-clear-row-end
+    clear-row-requires
     loop-less
     loop-again
+    sub-clear-row-2
+    part-clear-row-start-2
+    part-clear-row-end-2
+    clear-row-requires-2
     same-length
     returns)
