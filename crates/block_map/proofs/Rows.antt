@@ -36,6 +36,11 @@ module _ (f : ℕ → ℕ) where
       none : max 0 (f x) ≡ 0
       none = omega (arith, greatest-grows row (max 0 (f x)))
 
+  pub greatest-zeros : (k : ℕ) → f 0 ≡ 0 → greatestIn f (replicate k 0) 0 ≡ 0
+  unfolding greatestIn
+  greatest-zeros zero z = refl
+  greatest-zeros (suc k) z = ap (λ (x : ℕ). greatestIn f (replicate k 0) (max 0 x)) z ∙ greatest-zeros k z
+
 -- all bytes are 0 where the greatest is
 pub zero-test : (row : List ℕ) → eqb (greatestIn itself row 0) 0 ≡ allZero row
 unfolding greatestIn allZero

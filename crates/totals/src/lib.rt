@@ -1,6 +1,8 @@
 // The figures that are counted on the final block map, and the verdict on them.
+use block_map::greater;
 use block_map::is_marked;
 use block_map::is_used;
+use block_map::is_zero;
 use block_map::owner;
 use fields::part_of;
 use report::KINDS;
@@ -9,10 +11,10 @@ ghost use mathlib.Core.Path.{_≡_};
 ghost use mathlib.Core.Bool.{not};
 ghost use Prim.Native.Nat.{_+_, _-_, _^_, _≤_, _<_};
 ghost use lib.Dec.{eqb};
-ghost use lib.ListN.{getD, set, take};
+ghost use lib.ListN.{length, getD, set, take};
 ghost use Rattle.fields.specs.Choice.{pick};
 ghost use Rattle.totals.specs.Totals.{isLeaked, lostIn, verdictOf};
-ghost use Rattle.totals.specs.Counting.{firstKind, lostKind, noLost, oneMore, totalsOf};
+ghost use Rattle.totals.specs.Counting.{firstKind, lostKind, noLost, oneMore, lostAfter, totalsOf, countsIn, Room};
 
 // The owner of the first kind of claimants.
 const FIRST_KIND: u8 = 1;
@@ -23,6 +25,16 @@ const UNOWNED: u8 = 0;
 const CONSISTENT: u8 = 1;
 
 const INCONSISTENT: u8 = 2;
+
+// How many bytes are counted together: few enough for a u8.
+const ROW: usize = 128;
+
+// Of a row: blocks used, blocks leaked, and the greatest kind that lost one, or UNOWNED.
+struct Counts {
+    used: u8,
+    leaked: u8,
+    lost: u8,
+}
 
 pub struct Totals {
     pub used: u64,
@@ -43,11 +55,28 @@ fn lost_kind(x: u8) -> u8
     if is_marked(x) { UNOWNED } else { owner(x) }
 }
 
-fn counted(n: u64, met: bool) -> u64
-    requires { ⌜ n < 2 ^ 64 - 1 ⌝ }
+fn counted(n: u8, met: bool) -> u8
+    requires { ⌜ n < 255 ⌝ }
     ensures { λ r. ⌜ r ≡ pick met (n + 1) n ⌝ }
 {
     if met { n + 1 } else { n }
+}
+
+// With no branch, so that many bytes are counted at once.
+fn counts_in(row: &[u8]) -> Counts
+    requires { ⌜ length (now row) < 256 ⌝ }
+    ensures { λ r. ⌜ r ≡ countsIn (now (row .entry)) ⌝ }
+{
+    let mut used: u8 = 0;
+    let mut leaked: u8 = 0;
+    let mut lost: u8 = UNOWNED;
+    for i in 0..row.len() {
+        let x = row[i];
+        used = counted(used, is_used(x));
+        leaked = counted(leaked, is_leaked(x));
+        lost = greater(lost, lost_kind(x));
+    }
+    Counts { used, leaked, lost }
 }
 
 // The first block stays: the count tells whether there is one, since it may be block 0.
@@ -62,6 +91,49 @@ fn one_more(l: Lost, block: u64) -> Lost
     }
 }
 
+// A row that is all 0 counts for nothing.
+fn counts_of(row: &[u8]) -> Counts
+    requires { ⌜ length (now row) < 256 ⌝ }
+    ensures { λ r. ⌜ r ≡ countsIn (now (row .entry)) ⌝ }
+{
+    if is_zero(row) {
+        return Counts {
+            used: 0,
+            leaked: 0,
+            lost: UNOWNED,
+        };
+    }
+    counts_in(row)
+}
+
+// The lost blocks of a row whose first byte is block start's, after those of before.
+fn lost_in(row: &[u8], start: u64, before: [Lost; KINDS]) -> [Lost; KINDS]
+    requires { ⌜ Room (now row) start before ⌝ }
+    ensures { λ r. ⌜ r ≡ lostAfter (now (row .entry)) start firstKind before ⌝ }
+{
+    let mut lost = before;
+    for i in 0..row.len() {
+        let kind = lost_kind(row[i]);
+        if kind != UNOWNED {
+            let place = (kind - FIRST_KIND) as usize;
+            // A number above the last kind counts for none.
+            if place < KINDS {
+                let l = lost[place];
+                lost[place] = one_more(l, start + i as u64);
+            }
+        }
+    }
+    lost
+}
+
+fn row_end(at: usize, n: usize) -> usize
+    requires { ⌜ at < n ⌝ }
+    ensures { λ r. ⌜ (at < r) × (r ≤ n) × (r < at + 256) ⌝ }
+{
+    if n - at < ROW { n } else { at + ROW }
+}
+
+// Bytes are looked at one by one only in a row that has a lost block.
 fn totals_of(cells: &[u8]) -> Totals
     ensures { λ r. ⌜ r ≡ totalsOf (now (cells .entry)) ⌝ }
 {
@@ -69,19 +141,18 @@ fn totals_of(cells: &[u8]) -> Totals
     let mut lost = [none; KINDS];
     let mut used: u64 = 0;
     let mut leaked: u64 = 0;
-    for i in 0..cells.len() {
-        let x = cells[i];
-        used = counted(used, is_used(x));
-        leaked = counted(leaked, is_leaked(x));
-        let kind = lost_kind(x);
-        if kind != UNOWNED {
-            let place = (kind - FIRST_KIND) as usize;
-            // A number above the last kind counts for none.
-            if place < KINDS {
-                let l = lost[place];
-                lost[place] = one_more(l, i as u64);
-            }
+    let mut at = 0;
+    while at < cells.len() {
+        let end = row_end(at, cells.len());
+        let row = &cells[at..end];
+        let counts = counts_of(row);
+        used += counts.used as u64;
+        leaked += counts.leaked as u64;
+        if counts.lost != UNOWNED {
+            let next = lost_in(row, at as u64, lost);
+            lost = next;
         }
+        at = end;
     }
     Totals { used, leaked, lost }
 }

@@ -1,100 +1,114 @@
-use mathlib.Core.Logic.{⊎-elim}
-use mathlib.Core.Path.{_≡_, refl, sym, _∙_}
-use Prim.Native.Nat.{_≤_, _-_}
+use mathlib.Core.List.{List}
+use mathlib.Core.Path.{_≡_, refl, sym, ap, _∙_}
+use Prim.Native.Nat.{ℕ, _≤_, _+_, _-_}
 use native.Mathlib.Omega.{arith}
-use lib.ListN.{length, drop}
+use lib.ListN.{length, take, drop}
 use borrow.Author.Needs.{needs}
 use Rattle.report.specs.Report.{kinds}
+use Rattle.report.specs.declared.Lost.{Lost}
 use Rattle.block_map.specs.BlockMap.{isUsed, countIn}
-use Rattle.totals.specs.Counting.{firstKind}
+use Rattle.totals.specs.Counting.{firstKind, lostAfter}
+use Rattle.totals.specs.declared.Counts.{Counts}
 use Rattle.totals.specs.Totals.{isLeaked, lostFrom}
-use Rattle.totals.proofs.Laws.{lostAfter, count-fits, count-more, count-done, lost-fits, after-start, after-done, Walked, walked-skip, walked-add, walked-past}
+use Rattle.totals.proofs.Laws.{count-fits, count-row, count-done, lost-fits, length-part, after-start, after-row, after-quiet, after-done}
 use Rattle.totals.proofs.totals_of.Statement.{statement}
 use Rattle.totals.proofs.totals_of.Tie as tie
 
 abbrev Inv-loop : tie.InvT-loop
-Inv-loop cells lost₀ used₀ leaked₀ i₀ i-end lost used leaked i =
-    (i ≤ length cells)
+Inv-loop cells lost₀ used₀ leaked₀ at₀ lost used leaked at =
+    (at ≤ length cells)
     × (length lost ≡ kinds)
-    × (countIn isUsed (drop i cells) used ≡ countIn isUsed cells 0)
-    × (countIn isLeaked (drop i cells) leaked ≡ countIn isLeaked cells 0)
-    × (lostAfter (drop i cells) i firstKind lost ≡ lostFrom cells kinds firstKind)
+    × (countIn isUsed (drop at cells) used ≡ countIn isUsed cells 0)
+    × (countIn isLeaked (drop at cells) leaked ≡ countIn isLeaked cells 0)
+    × (lostAfter (drop at cells) at firstKind lost ≡ lostFrom cells kinds firstKind)
 
 abbrev μ-loop : tie.MeasureT-loop
-μ-loop cells lost₀ used₀ leaked₀ i₀ i-end lost used leaked i = length cells - i
+μ-loop cells lost₀ used₀ leaked₀ at₀ lost used leaked at = length cells - at
+
+-- a row that was counted: the bytes it is of, where it starts and ends, and what is left after it
+abbrev Row : Type 0
+Row = tie.After-counts-of Inv-loop μ-loop
+
+abbrev cells : Row → List ℕ
+cells c = c .before .before .before .before .before .before .args .cells .now
+
+abbrev start : Row → ℕ
+start c = c .before .before .before .before .loop .at
+
+abbrev end : Row → ℕ
+end c = c .before .before .row-end .result
+
+used-left : (c : Row) → countIn isUsed (drop (end c) (cells c)) (c .before .before .before .before .loop .used + c .counts-of .result .used) ≡ countIn isUsed (cells c) 0
+used-left c = count-row isUsed _ (start c) (end c) _ _ _ (c .before .before .before .before .loop .inv .2) (ap (λ (k : Counts). k .used) (c .counts-of .ensures)) (omega arith)
+
+leaked-left : (c : Row) → countIn isLeaked (drop (end c) (cells c)) (c .before .before .before .before .loop .leaked + c .counts-of .result .leaked) ≡ countIn isLeaked (cells c) 0
+leaked-left c = count-row isLeaked _ (start c) (end c) _ _ _ (c .before .before .before .before .loop .inv .3) (ap (λ (k : Counts). k .leaked) (c .counts-of .ensures)) (omega arith)
+
+lost-left : (c : Row) (next : List Lost) → next ≡ lostAfter (take (end c - start c) (drop (start c) (cells c))) (start c) firstKind (c .before .before .before .before .loop .lost) → lostAfter (drop (end c) (cells c)) (end c) firstKind next ≡ lostFrom (cells c) kinds firstKind
+lost-left c next e = after-row _ (start c) (end c) firstKind _ next (omega arith) (omega arith) e ∙ c .before .before .before .before .loop .inv .4
 
 loop-holds : tie.Need-loop-holds Inv-loop μ-loop
 loop-holds c = (search needs, refl, refl, refl, after-start _ kinds firstKind)
 
-shared-slice-read-x : tie.Need-shared-slice-read-x Inv-loop μ-loop
-shared-slice-read-x c = search needs
+row-end-requires : tie.Need-row-end-requires Inv-loop μ-loop
+row-end-requires c κs = search needs
 
-is-used-requires : tie.Need-is-used-requires Inv-loop μ-loop
-is-used-requires c κs = search needs
+sub-row : tie.Need-sub-row Inv-loop μ-loop
+sub-row c = search needs
 
-counted-requires : tie.Need-counted-requires Inv-loop μ-loop
-counted-requires c κs = omega (arith, count-fits isUsed _ _ _ (c .before .before .before .loop .inv .2))
+part-row-start : tie.Need-part-row-start Inv-loop μ-loop
+part-row-start c = search needs
 
-is-leaked-requires : tie.Need-is-leaked-requires Inv-loop μ-loop
-is-leaked-requires c κs = search needs
+part-row-end : tie.Need-part-row-end Inv-loop μ-loop
+part-row-end c = search needs
 
-counted-requires-2 : tie.Need-counted-requires-2 Inv-loop μ-loop
-counted-requires-2 c κs = omega (arith, count-fits isLeaked _ _ _ (c .before .before .before .before .before .loop .inv .3))
+counts-of-requires : tie.Need-counts-of-requires Inv-loop μ-loop
+counts-of-requires c κs = search needs
 
-lost-kind-requires : tie.Need-lost-kind-requires Inv-loop μ-loop
-lost-kind-requires c κs = search needs
+cast-used : tie.Need-cast-used Inv-loop μ-loop
+cast-used c = omega (arith, count-fits isUsed _ _ _ (used-left (c .before)))
 
-sub-place : tie.Need-sub-place Inv-loop μ-loop
-sub-place c = search needs
+add-used : tie.Need-add-used Inv-loop μ-loop
+add-used c = omega (arith, count-fits isUsed _ _ _ (used-left (c .before)))
 
-cast-place : tie.Need-cast-place Inv-loop μ-loop
-cast-place c = search needs
+cast-leaked : tie.Need-cast-leaked Inv-loop μ-loop
+cast-leaked c = omega (arith, count-fits isLeaked _ _ _ (leaked-left (c .before .before)))
 
-mul-l : tie.Need-mul-l Inv-loop μ-loop
-mul-l c = search needs
+add-leaked : tie.Need-add-leaked Inv-loop μ-loop
+add-leaked c = omega (arith, count-fits isLeaked _ _ _ (leaked-left (c .before .before)))
 
-array-copy-out-l : tie.Need-array-copy-out-l Inv-loop μ-loop
-array-copy-out-l c = search needs
-
-one-more-requires : tie.Need-one-more-requires Inv-loop μ-loop
-one-more-requires c κs =
-    let at = c .before .before .before .before .before .before .before .before .before .before .loop in
-    let fits = lost-fits _ _ (at .i) kinds firstKind (at .lost) (c .before .before .before .lost-kind .result - 1) (at .inv .4) in
-    omega arith
-
-mul-lost : tie.Need-mul-lost Inv-loop μ-loop
-mul-lost c = search needs
-
-array-set-from-lost : tie.Need-array-set-from-lost Inv-loop μ-loop
-array-set-from-lost c = search needs
-
-add-i : tie.Need-add-i Inv-loop μ-loop
-add-i c = search needs
+lost-in-requires : tie.Need-lost-in-requires Inv-loop μ-loop
+lost-in-requires c κs =
+    let at = c .before .before .before .before .before .before .before .before .loop in
+    let part = length-part (cells (c .before .before .before .before)) (start (c .before .before .before .before)) (end (c .before .before .before .before)) (omega arith) (omega arith) in
+    record {
+      blocks = omega (arith, part);
+      counts = λ j. omega (arith, part, lost-fits _ _ (at .at) kinds firstKind (at .lost) j (at .inv .4));
+    }
 
 loop-less : tie.Need-loop-less Inv-loop μ-loop
 loop-less c = search needs
 
-step : (c : tie.Joined1 Inv-loop μ-loop) → Walked (c .before .before .before .before .before .before .before .before .before .before .args .cells .now) (c .before .before .before .before .before .before .before .before .loop .i) (c .before .before .before .before .before .before .before .before .loop .lost) (c .if1 .lost)
-step c =
-    let more = c .before .before .before .before .before .before .before .loop-test .taken in
-    let kind = c .before .lost-kind .ensures in
-    ⊎-elim
-    (λ w. walked-add _ _ _ _ more _ kind (w .0 .taken) (w .4 ∙ rw (w .3 .ensures) refl))
-    (⊎-elim
-    (λ w. walked-past _ _ _ _ more _ kind (w .0 .taken) (omega arith) (w .2))
-    (λ w. walked-skip _ _ _ _ more _ kind (w .0 .left) (w .1)))
-    (c .if1 .came)
-
 loop-again : tie.Need-loop-again Inv-loop μ-loop
-loop-again c =
-    let inv = c .before .before .before .before .before .before .before .before .loop .inv in
-    let more = c .before .before .before .before .before .before .before .loop-test .taken in (
-      search needs,
-      step c .long ∙ inv .1,
-      count-more isUsed _ _ _ _ _ more (c .before .before .before .before .before .is-used .ensures) (c .before .before .before .before .counted .ensures) ∙ inv .2,
-      count-more isLeaked _ _ _ _ _ more (c .before .before .before .is-leaked .ensures) (c .before .before .counted2 .ensures) ∙ inv .3,
-      step c .left ∙ inv .4,
-    )
+loop-again c = (
+  search needs,
+  search needs,
+  used-left (c .before .before .before .before .before),
+  leaked-left (c .before .before .before .before .before),
+  lost-left (c .before .before .before .before .before) _ (c .lost-in .ensures),
+)
+
+loop-less-2 : tie.Need-loop-less-2 Inv-loop μ-loop
+loop-less-2 c = search needs
+
+loop-again-2 : tie.Need-loop-again-2 Inv-loop μ-loop
+loop-again-2 c = (
+  search needs,
+  search needs,
+  used-left (c .before .before .before .before),
+  leaked-left (c .before .before .before .before),
+  lost-left (c .before .before .before .before) _ (sym (after-quiet _ _ firstKind _ (omega arith) (sym (ap (λ (k : Counts). k .lost) (c .before .before .before .before .counts-of .ensures)) ∙ c .if1 .left))),
+)
 
 returns : tie.Need-returns Inv-loop μ-loop
 returns c =
@@ -103,7 +117,7 @@ returns c =
     rw (
       sym (count-done isUsed _ _ _ all) ∙ inv .2,
       sym (count-done isLeaked _ _ _ all) ∙ inv .3,
-      sym (after-done _ _ firstKind _ all) ∙ inv .4,
+      sym (after-done _ _ _ firstKind _ all) ∙ inv .4,
     )
 
 pub totals-of-spec : {M : Type 1} → statement M
@@ -113,20 +127,18 @@ totals-of-spec =
     Inv-loop
     μ-loop
     loop-holds
-    shared-slice-read-x
-    is-used-requires
-    counted-requires
-    is-leaked-requires
-    counted-requires-2
-    lost-kind-requires
-    sub-place
-    cast-place
-    mul-l
-    array-copy-out-l
-    one-more-requires
-    mul-lost
-    array-set-from-lost
-    add-i
+    row-end-requires
+    sub-row
+    part-row-start
+    part-row-end
+    counts-of-requires
+    cast-used
+    add-used
+    cast-leaked
+    add-leaked
+    lost-in-requires
     loop-less
     loop-again
+    loop-less-2
+    loop-again-2
     returns)
