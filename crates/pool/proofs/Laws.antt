@@ -1,13 +1,13 @@
 -- Laws of the pool's bitmap in place, and of what is counted over it.
-use mathlib.Core.Path.{_≡_, refl, ap, _∙_}
-use mathlib.Core.Bool.{Bool, true, false}
+use mathlib.Core.Path.{_≡_, refl, sym, ap, _∙_}
+use mathlib.Core.Bool.{Bool, true, false, not, _&&_}
 use mathlib.Core.List.{List}
 use Prim.Native.Nat.{ℕ, zero, suc, _+_, _-_, _*_, _/_, _%_, _^_, _≤_, _<_}
-use native.Mathlib.Nat.{sub-zero, add-zero, mul-zero, div-lt-iff-lt-mul, le-div-iff-mul-le}
+use native.Mathlib.Nat.{add-zero, zero-add, suc-add, mul-zero, zero-div, div-lt-iff-lt-mul, le-div-iff-mul-le}
 use native.Mathlib.Omega.{arith}
 use lib.ListN.{length, getD, List·getD-eq-default}
 use Rattle.fields.specs.Choice.{pick}
-use Rattle.fields.specs.Fields.{bitAt}
+use Rattle.fields.specs.Fields.{bit, bitAt}
 use Rattle.fields.proofs.Laws.{below-limit}
 use Rattle.blocks.specs.declared.Container.{Container}
 use Rattle.block_map.specs.BlockMap.{usedAt}
@@ -61,44 +61,86 @@ module _ (f : ℕ → List ℕ) (size : ℕ) (p : PoolPlace) where
 pub index-of : (base i : ℕ) → i < 2 ^ 64 → poolIndex (base + i) base ≡ i
 index-of base i h = omega arith
 
+-- a bit by its byte, which was read; a byte 0 has no set bit
+pub bit-read-of : (bits : List ℕ) (j b i : ℕ) (t : Bool) → b ≡ getD bits j 0 → i / 8 ≡ j → t ≡ bit (i % 8) b → t ≡ bitAt bits i
+unfolding bitAt
+bit-read-of bits j b i t p q r = r ∙ rw (p, q) refl
+
+bit-none : (bits : List ℕ) (j : ℕ) → getD bits j 0 ≡ 0 → (i : ℕ) → j * 8 ≤ i → i < j * 8 + 8 → bitAt bits i ≡ false
+unfolding bitAt
+bit-none bits j z i low high = let at : i / 8 ≡ j = omega arith in rw (at, z, zero-div) refl
+
 -- what the count finds at a place
-module _ (c : Container) (p : Pool) (map : List ℕ) (i : ℕ) (inside : i < p .blocks) (fits : i < 2 ^ 64) (t : Bool) (e : t ≡ bitAt (p .bits) i) where
-  is-marked : t ≡ poolMarked p (p .base + i)
-  unfolding poolMarked
-  is-marked = rw (index-of (p .base) i fits) (e ∙ below-limit i (p .blocks) _ inside)
-
-  pub one-unmarked : t ≡ false → 0 ≡ unusedOne c p map (p .base + i)
+module _ (c : Container) (map : List ℕ) (a : ℕ) (marked : Bool) where
+  pub one-unmarked : marked ≡ false → 0 ≡ unusedOne c map marked a
   unfolding unusedOne
-  one-unmarked h = rw (← is-marked, h) refl
+  one-unmarked h = rw h refl
 
-  module _ (h : t ≡ true) (u : Bool) (q : u ≡ usedAt c map (p .base + i)) where
-    pub one-used : u ≡ true → 0 ≡ unusedOne c p map (p .base + i)
+  module _ (h : marked ≡ true) (u : Bool) (q : u ≡ usedAt c map a) where
+    pub one-used : u ≡ true → 0 ≡ unusedOne c map marked a
     unfolding unusedOne
-    one-used k = rw (← is-marked, ← q, h, k) refl
+    one-used k = rw (← q, h, k) refl
 
-    pub one-unused : u ≡ false → 1 ≡ unusedOne c p map (p .base + i)
+    pub one-unused : u ≡ false → 1 ≡ unusedOne c map marked a
     unfolding unusedOne
-    one-unused k = rw (← is-marked, ← q, h, k) refl
+    one-unused k = rw (← q, h, k) refl
 
 -- the count: what is left from place i on gives the whole
 plus-pick : (t : Bool) (n : ℕ) → n + pick t 1 0 ≡ pick t (n + 1) n
 plus-pick true n = refl
 plus-pick false n = add-zero n
 
-abbrev pub Counted : Container → Pool → List ℕ → ℕ → ℕ → Type 0
-Counted c p map i n = unusedFrom c p map (p .blocks - i) (p .base + i) n ≡ unusedFrom c p map (p .blocks) (p .base) 0
+one-more : (t : Bool) (n : ℕ) → pick t (n + 1) n ≤ n + 1
+one-more true n = omega arith
+one-more false n = omega arith
 
-module _ (c : Container) (p : Pool) (map : List ℕ) (i n : ℕ) where
-  pub counted-first : Counted c p map 0 0
-  counted-first = rw (sub-zero, add-zero) refl
+module _ (c : Container) (p : Pool) (map : List ℕ) where
+  -- one place, by its bit
+  count-one : (left i n : ℕ) → i < p .blocks → i < 2 ^ 64
+      → unusedFrom c p map (suc left) (p .base + i) n ≡ unusedFrom c p map left (p .base + (i + 1)) (n + unusedOne c map (bitAt (p .bits) i) (p .base + i))
+  unfolding unusedFrom unusedOne poolMarked
+  count-one left i n h fits =
+      let next : p .base + (i + 1) ≡ p .base + i + 1 = omega arith in rw (next, plus-pick, index-of (p .base) i fits, ← below-limit i (p .blocks) (bitAt (p .bits) i) h) refl
 
-  pub counted-more : i < p .blocks → (r : ℕ) → r ≡ unusedOne c p map (p .base + i)
-      → Counted c p map i n → Counted c p map (i + 1) (n + r)
-  unfolding unusedFrom unusedOne
-  counted-more h r q left =
-      let more : p .blocks - i ≡ suc (p .blocks - (i + 1)) = omega arith in
-      let next : p .base + (i + 1) ≡ p .base + i + 1 = omega arith in rw (next, q, plus-pick) (rw more at left)
-
-  pub counted-done : p .blocks ≤ i → Counted c p map i n → n ≡ unusedFrom c p map (p .blocks) (p .base) 0
+  -- places whose bits are in a byte 0
+  pub count-none : (j : ℕ) → getD (p .bits) j 0 ≡ 0 → (left i n : ℕ) → j * 8 ≤ i → i + left ≤ j * 8 + 8 → i + left ≤ p .blocks → p .blocks < 2 ^ 64
+      → unusedFrom c p map left (p .base + i) n ≡ n
   unfolding unusedFrom
-  counted-done h left = let none : p .blocks - i ≡ 0 = omega arith in rw none at left
+  count-none j z zero i n low high inside fits = refl
+  count-none j z (suc left) i n low high inside fits =
+      count-one left i n (omega arith) (omega arith) ∙ rw (← one-unmarked c map (p .base + i) (bitAt (p .bits) i) (bit-none (p .bits) j z i low (omega arith)), add-zero) (count-none j z left (i + 1) n (omega arith) (omega arith) (omega arith) fits)
+
+  -- no more are counted than there are
+  count-few : (left a n : ℕ) → unusedFrom c p map left a n ≤ n + left
+  unfolding unusedFrom
+  count-few zero a n = omega arith
+  count-few (suc left) a n = let next = count-few left (a + 1) (pick (poolMarked p a && not (usedAt c map a)) (n + 1) n) in omega (arith, next, one-more (poolMarked p a && not (usedAt c map a)) n)
+
+  -- so many places, and those after them
+  count-then : (left more a n : ℕ) → unusedFrom c p map (left + more) a n ≡ unusedFrom c p map more (a + left) (unusedFrom c p map left a n)
+  unfolding unusedFrom
+  count-then zero more a n = rw (zero-add, add-zero) refl
+  count-then (suc left) more a n =
+      let next : a + suc left ≡ a + 1 + left = omega arith in rw (suc-add, next) (count-then left more (a + 1) _)
+
+-- of the places from first to end, those from i on are left, and n are counted
+abbrev pub Counted : Container → Pool → List ℕ → ℕ → ℕ → ℕ → ℕ → ℕ → Type 0
+Counted c p map first end n₀ i n = unusedFrom c p map (end - i) (p .base + i) n ≡ unusedFrom c p map (end - first) (p .base + first) n₀
+
+module _ (c : Container) (p : Pool) (map : List ℕ) (first end n₀ i n : ℕ) (left : Counted c p map first end n₀ i n) where
+  pub counted-more : i < end → end ≤ p .blocks → i < 2 ^ 64 → (t : Bool) → t ≡ bitAt (p .bits) i → (r : ℕ) → r ≡ unusedOne c map t (p .base + i) → Counted c p map first end n₀ (i + 1) (n + r)
+  counted-more h inside fits t e r q =
+      let more : end - i ≡ suc (end - (i + 1)) = omega arith in
+      let below : i < p .blocks = omega arith in rw (q, e) (sym (count-one c p map (end - (i + 1)) i n below fits) ∙ rw more at left)
+
+  pub counted-span : (k : ℕ) → i ≤ k → k ≤ end → (r : ℕ) → r ≡ unusedFrom c p map (k - i) (p .base + i) n → Counted c p map first end n₀ k r
+  counted-span k low high r q =
+      let all : end - i ≡ k - i + (end - k) = omega arith in
+      let place : p .base + k ≡ p .base + i + (k - i) = omega arith in rw (q, place) (sym (count-then c p map (k - i) (end - k) (p .base + i) n) ∙ rw all at left)
+
+  pub counted-few : (k : ℕ) → n ≤ i → i ≤ k → (r : ℕ) → r ≡ unusedFrom c p map (k - i) (p .base + i) n → r ≤ k
+  counted-few k h low r q = omega (arith, q, count-few c p map (k - i) (p .base + i) n)
+
+  pub counted-done : end ≤ i → n ≡ unusedFrom c p map (end - first) (p .base + first) n₀
+  unfolding unusedFrom
+  counted-done h = let none : end - i ≡ 0 = omega arith in rw none at left

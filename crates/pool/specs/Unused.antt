@@ -1,12 +1,22 @@
--- A step of the count of pool blocks marked but unused.
-use mathlib.Core.Bool.{not, _&&_}
+-- Steps of the count of pool blocks marked but unused.
+use mathlib.Core.Bool.{Bool, not, _&&_}
 use mathlib.Core.List.{List}
-use Prim.Native.Nat.{ℕ}
+use Prim.Native.Nat.{ℕ, _+_, _*_, _/_, _≤_, min}
 use Rattle.fields.specs.Choice.{pick}
 use Rattle.blocks.specs.declared.Container.{Container}
 use Rattle.block_map.specs.BlockMap.{usedAt}
-use Rattle.pool.specs.Pool.{Pool, poolMarked}
 
--- 1 where block a is marked but unused
-unfoldable pub unusedOne : Container → Pool → List ℕ → ℕ → ℕ
-unusedOne c p map a = pick (poolMarked p a && not (usedAt c map a)) 1 0
+-- 1 where block a is marked, as its bit says, but unused
+unfoldable pub unusedOne : Container → List ℕ → Bool → ℕ → ℕ
+unusedOne c map marked a = pick (marked && not (usedAt c map a)) 1 0
+
+-- the end of the blocks whose bits are in the byte of block i's, of so many
+abbrev pub byteEnd : ℕ → ℕ → ℕ
+byteEnd i blocks = min (i / 8 * 8 + 8) blocks
+
+-- blocks from first to end, of so many, whose bits are in one byte; no more were counted before them than there are
+pub record OneByte (first end counted blocks : ℕ) : Type 0 where
+  pub some : first ≤ end
+  pub near : end ≤ first / 8 * 8 + 8
+  pub inside : end ≤ blocks
+  pub few : counted ≤ first

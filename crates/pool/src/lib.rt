@@ -5,10 +5,10 @@ use blocks::Seen;
 use manager::Manager;
 use manager::offsets;
 ghost use mathlib.Core.Path.{_≡_};
-ghost use Prim.Native.Nat.{_+_, _*_, _<_, _≤_};
+ghost use Prim.Native.Nat.{_+_, _-_, _*_, _<_, _≤_};
 ghost use lib.Dec.{leb};
 ghost use lib.ListN.{getD};
-ghost use Rattle.fields.specs.Fields.{bitAt};
+ghost use Rattle.fields.specs.Fields.{bit, bitAt};
 ghost use Rattle.blocks.specs.Reads.{run};
 ghost use Rattle.blocks.specs.Blocks.{blockOf, Holds};
 ghost use Rattle.blocks.specs.Answers.{seenAs};
@@ -17,8 +17,10 @@ ghost use Rattle.manager.specs.Manager.{poolBitmaps};
 ghost use Rattle.manager.specs.Place.{placed, bytesOf};
 ghost use Rattle.pool.specs.Pool.{loadPool, poolIndex, poolMarked, unusedFrom};
 ghost use Rattle.pool.specs.Place.{bitmapIn, poolIn};
-ghost use Rattle.pool.specs.Unused.{unusedOne};
+ghost use Rattle.pool.specs.Unused.{unusedOne, byteEnd, OneByte};
 ghost use Rattle.pool.specs.Load.{placeIn, places, BitmapSeen, BitmapsSeen, poolFrom};
+
+const BYTE_BITS: u64 = 8;
 
 // Where the pool lies, and through what its bitmap is found: the manager, and the ring of its bitmap blocks.
 pub struct PoolPlace {
@@ -67,13 +69,21 @@ fn bitmap_byte(image: &[u8], container: Container, p: PoolPlace, j: u64) -> u8
     block[at]
 }
 
-// Bit i of the bitmap, the lowest bit of a byte first.
+// Bit k of a byte of a bitmap, the lowest first.
+pub fn bit_of(b: u8, k: u64) -> bool
+    requires { ⌜ k < 8 ⌝ }
+    ensures { λ r. ⌜ r ≡ bit k b ⌝ }
+{
+    let shift = k as u8;
+    b >> shift & 1 == 1
+}
+
+// Bit i of the bitmap.
 fn bit_in(image: &[u8], container: Container, p: PoolPlace, i: u64) -> bool
     ensures { λ r. ⌜ r ≡ bitAt (bitmapIn (blockOf (now (image .entry)) (container .size)) (container .size) p) i ⌝ }
 {
-    let b = bitmap_byte(image, container, p, i / 8);
-    let k = (i % 8) as u8;
-    b >> k & 1 == 1
+    let b = bitmap_byte(image, container, p, i / BYTE_BITS);
+    bit_of(b, i % BYTE_BITS)
 }
 
 // Whether block a is in the pool, and its bit is 1.
@@ -138,7 +148,7 @@ fn has_bits(size: u64, n: u64, blocks: u64) -> bool
     if blocks == 0 {
         return true;
     }
-    (blocks - 1) / 8 / size < n
+    (blocks - 1) / BYTE_BITS / size < n
 }
 
 // The pool, once the list of its bitmap's blocks is known to be whole.
@@ -183,18 +193,52 @@ fn used_in(map: &[u8], container: Container, base: u64, i: u64) -> bool
     block_map::used_at(map, container, base + i)
 }
 
-// 1 where the pool's block i is marked but unused.
-fn unused_one(image: &[u8], map: &[u8], container: Container, p: PoolPlace, i: u64) -> u64
-    requires { ⌜ i < p .blocks ⌝ }
-    ensures { λ r. ⌜ (r ≡ unusedOne container (poolIn (blockOf (now (image .entry)) (container .size)) (container .size) p) (now (map .entry)) (p .base + i)) × (r ≤ 1) ⌝ }
+// 1 where the pool's block i is marked, as its bit says, but unused.
+fn unused_one(map: &[u8], container: Container, base: u64, i: u64, marked: bool) -> u64
+    ensures { λ r. ⌜ (r ≡ unusedOne container (now (map .entry)) marked (base + i)) × (r ≤ 1) ⌝ }
 {
-    if !bit_in(image, container, p, i) {
+    if !marked {
         return 0;
     }
-    if used_in(map, container, p.base, i) {
+    if used_in(map, container, base, i) {
         return 0;
     }
     1
+}
+
+// The first of the pool's blocks after i whose bit is in another byte than i's, or their end.
+fn byte_end(i: u64, blocks: u64) -> u64
+    requires { ⌜ i < blocks ⌝ }
+    ensures { λ r. ⌜ r ≡ byteEnd i blocks ⌝ }
+{
+    let left = BYTE_BITS - i % BYTE_BITS;
+    if blocks - i < left { blocks } else { i + left }
+}
+
+// How many of the pool's blocks from first to end, whose bits are in one byte, are marked but unused; after n.
+fn unused_byte(
+    image: &[u8],
+    map: &[u8],
+    container: Container,
+    p: PoolPlace,
+    first: u64,
+    end: u64,
+    n: u64,
+) -> u64
+    requires { ⌜ OneByte first end n (p .blocks) ⌝ }
+    ensures { λ r. ⌜ r ≡ unusedFrom container (poolIn (blockOf (now (image .entry)) (container .size)) (container .size) p) (now (map .entry)) (end - first) (p .base + first) n ⌝ }
+{
+    let b = bitmap_byte(image, container, p, first / BYTE_BITS);
+    if b == 0 {
+        return n;
+    }
+    let mut found = n;
+    let mut i = first;
+    while i < end {
+        found += unused_one(map, container, p.base, i, bit_of(b, i % BYTE_BITS));
+        i += 1;
+    }
+    found
 }
 
 // How many pool blocks are marked but unused.
@@ -204,8 +248,9 @@ pub fn unused(image: &[u8], map: &[u8], container: Container, p: PoolPlace) -> u
     let mut n = 0;
     let mut i = 0;
     while i < p.blocks {
-        n += unused_one(image, map, container, p, i);
-        i += 1;
+        let end = byte_end(i, p.blocks);
+        n = unused_byte(image, map, container, p, i, end, n);
+        i = end;
     }
     n
 }

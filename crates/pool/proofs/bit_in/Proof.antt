@@ -1,6 +1,5 @@
-use Prim.Native.Nat.{_%_}
-use Rattle.fields.proofs.Laws.{bit-read}
-use Rattle.fields.specs.Fields.{bitAt}
+use Rattle.pool.proofs.Laws.{bit-read-of}
+use mathlib.Core.Path.{refl}
 use borrow.Author.Needs.{needs}
 use Rattle.pool.proofs.bit_in.Statement.{statement}
 use Rattle.pool.proofs.bit_in.Tie as tie
@@ -8,15 +7,11 @@ use Rattle.pool.proofs.bit_in.Tie as tie
 bitmap-byte-requires : tie.Need-bitmap-byte-requires
 bitmap-byte-requires c κs = search needs
 
-cast-k : tie.Need-cast-k
-cast-k c = search needs
-
-shr-result : tie.Need-shr-result
-shr-result c = search needs
+bit-of-requires : tie.Need-bit-of-requires
+bit-of-requires c κs = search needs
 
 returns : tie.Need-returns
-unfolding bitAt
-returns c = rw (← c .bitmap-byte .ensures) (bit-read (c .before .before .args .i % 8) (c .bitmap-byte .result))
+returns c = bit-read-of _ _ _ _ _ (c .before .bitmap-byte .ensures) refl (c .bit-of .ensures)
 
 pub bit-in-spec : {M : Type 1} → statement M
-bit-in-spec = tie.close (tie.spec bitmap-byte-requires cast-k shr-result returns)
+bit-in-spec = tie.close (tie.spec bitmap-byte-requires bit-of-requires returns)
