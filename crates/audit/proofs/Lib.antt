@@ -3,3 +3,4 @@ pub mod Laws
 pub mod BitmapLaws
 pub mod ChunkLaws
 pub mod QueuedLaws
+pub mod WholeLaws

@@ -2,6 +2,7 @@
 use crate::Audit;
 use crate::Audited;
 use crate::problems;
+use crate::whole;
 use blocks::Added;
 use blocks::Address;
 use blocks::Container;
@@ -11,14 +12,12 @@ use manager::Chunk;
 use report::Step;
 ghost use mathlib.Core.List.{List};
 ghost use mathlib.Core.Path.{_≡_};
-ghost use Prim.Native.Nat.{ℕ, _*_};
+ghost use Prim.Native.Nat.{ℕ, _-_, _*_, _≤_};
 ghost use lib.Dec.{eqb, leb};
 ghost use lib.ListN.{length};
 ghost use Rattle.fields.specs.Choice.{pick};
 ghost use Rattle.audit.specs.Audit.{markFrom, tally as tallyOf};
 ghost use Rattle.audit.specs.Answers.{Stepped, Audits, markSet, bitmapTallied, bitmapRead, bitmapEntered};
-
-const BYTE_BITS: u64 = 8;
 
 // How many zeros a bitmap has, after a step.
 struct Counted {
@@ -43,12 +42,21 @@ fn mark_set(map: &mut [u8], container: Container, start: u64, i: u64) -> Step
     }
 }
 
-// The bits of so many blocks from start on: set ones marked, clear ones counted.
-fn mark_bits(map: &mut [u8], container: Container, bits: &[u8], start: u64, blocks: u64) -> Counted
-    ensures { λ r. ⌜ ((f : ℕ → List ℕ) → Stepped f (container .count) (r .step) (now (map .entry)) (now (map .exit)) (r .zeros) (markFrom container (now (bits .entry)) start blocks 0 (record { map = now (map .entry); figures = 0 }))) ⌝ }
+// The bits from first on, of so many: set ones marked, clear ones counted, after so many.
+fn mark_rest(
+    map: &mut [u8],
+    container: Container,
+    bits: &[u8],
+    start: u64,
+    blocks: u64,
+    first: u64,
+    counted: u64,
+) -> Counted
+    requires { ⌜ (counted ≤ first) × (first ≤ blocks) ⌝ }
+    ensures { λ r. ⌜ ((f : ℕ → List ℕ) → Stepped f (container .count) (r .step) (now (map .entry)) (now (map .exit)) (r .zeros) (markFrom container (now (bits .entry)) start (blocks - first) first (record { map = now (map .entry); figures = counted }))) ⌝ }
 {
-    let mut zeros = 0;
-    let mut i = 0;
+    let mut zeros = counted;
+    let mut i = first;
     while i < blocks {
         if fields::bit_at(bits, i) {
             let step = mark_set(map, container, start, i);
@@ -63,6 +71,23 @@ fn mark_bits(map: &mut [u8], container: Container, bits: &[u8], start: u64, bloc
     }
     let step = Step::Done;
     Counted { step, zeros }
+}
+
+// The bits of so many blocks from start on: a byte at a time where none can be refused, then one by one.
+fn mark_bits(map: &mut [u8], container: Container, bits: &[u8], start: u64, blocks: u64) -> Counted
+    ensures { λ r. ⌜ ((f : ℕ → List ℕ) → Stepped f (container .count) (r .step) (now (map .entry)) (now (map .exit)) (r .zeros) (markFrom container (now (bits .entry)) start blocks 0 (record { map = now (map .entry); figures = 0 }))) ⌝ }
+{
+    let n = whole::whole_bytes(map, container, bits, start, blocks);
+    let zeros = whole::mark_bytes(map, bits, start, n);
+    mark_rest(
+        map,
+        container,
+        bits,
+        start,
+        blocks,
+        whole::BYTE_BITS * n,
+        zeros,
+    )
 }
 
 // 1 for a chunk whose free count differs from its zeros.
@@ -121,7 +146,7 @@ fn has_bits(bits: &[u8], n: u64) -> bool
     if n == 0 {
         return true;
     }
-    if (n - 1) / BYTE_BITS < bits.len() as u64 {
+    if (n - 1) / whole::BYTE_BITS < bits.len() as u64 {
         return true;
     }
     false

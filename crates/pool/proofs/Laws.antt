@@ -62,11 +62,11 @@ pub index-of : (base i : ℕ) → i < 2 ^ 64 → poolIndex (base + i) base ≡ i
 index-of base i h = omega arith
 
 -- a bit by its byte, which was read; a byte 0 has no set bit
-pub bit-read-of : (bits : List ℕ) (j b i : ℕ) (t : Bool) → b ≡ getD bits j 0 → i / 8 ≡ j → t ≡ bit (i % 8) b → t ≡ bitAt bits i
+pub bit-read-of : (bits : List ℕ) (j b i k : ℕ) (t : Bool) → b ≡ getD bits j 0 → i / 8 ≡ j → i % 8 ≡ k → t ≡ bit k b → t ≡ bitAt bits i
 unfolding bitAt
-bit-read-of bits j b i t p q r = r ∙ rw (p, q) refl
+bit-read-of bits j b i k t p q m r = r ∙ rw (p, q, m) refl
 
-bit-none : (bits : List ℕ) (j : ℕ) → getD bits j 0 ≡ 0 → (i : ℕ) → j * 8 ≤ i → i < j * 8 + 8 → bitAt bits i ≡ false
+pub bit-none : (bits : List ℕ) (j : ℕ) → getD bits j 0 ≡ 0 → (i : ℕ) → j * 8 ≤ i → i < j * 8 + 8 → bitAt bits i ≡ false
 unfolding bitAt
 bit-none bits j z i low high = let at : i / 8 ≡ j = omega arith in rw (at, z, zero-div) refl
 

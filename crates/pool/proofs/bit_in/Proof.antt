@@ -11,7 +11,7 @@ bit-of-requires : tie.Need-bit-of-requires
 bit-of-requires c κs = search needs
 
 returns : tie.Need-returns
-returns c = bit-read-of _ _ _ _ _ (c .before .bitmap-byte .ensures) refl (c .bit-of .ensures)
+returns c = bit-read-of _ _ _ _ _ _ (c .before .bitmap-byte .ensures) refl refl (c .bit-of .ensures)
 
 pub bit-in-spec : {M : Type 1} → statement M
 bit-in-spec = tie.close (tie.spec bitmap-byte-requires bit-of-requires returns)

@@ -39,7 +39,7 @@ loop-less : tie.Need-loop-less Inv-loop μ-loop
 loop-less c = search needs
 
 loop-again : tie.Need-loop-again Inv-loop μ-loop
-loop-again c = (search needs, search needs, search needs, counted-more _ _ _ _ _ _ _ _ (c .before .before .before .loop .inv .3) (c .before .before .loop-test .taken) (search needs) (search needs) _ (bit-read-of _ _ _ _ _ (c .before .before .before .before .before .bitmap-byte .ensures) (omega arith) (c .before .bit-of .ensures)) _ (c .unused-one .ensures .0))
+loop-again c = (search needs, search needs, search needs, counted-more _ _ _ _ _ _ _ _ (c .before .before .before .loop .inv .3) (c .before .before .loop-test .taken) (search needs) (search needs) _ (bit-read-of _ _ _ _ _ _ (c .before .before .before .before .before .bitmap-byte .ensures) (omega arith) refl (c .before .bit-of .ensures)) _ (c .unused-one .ensures .0))
 
 returns-2 : tie.Need-returns-2 Inv-loop μ-loop
 returns-2 c = counted-done _ _ _ _ _ _ _ _ (c .before .loop .inv .3) (c .loop-test .left)

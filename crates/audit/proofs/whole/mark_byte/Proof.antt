@@ -1,0 +1,87 @@
+use native.Mathlib.Nat.{add-zero}
+use borrow.Author.Needs.{needs}
+use Rattle.audit.proofs.WholeLaws.{byte-more, bits-over}
+use Rattle.audit.specs.Bits.{bitsMarked}
+use lib.ListN.{length}
+use mathlib.Core.Path.{_≡_, refl, sym, _∙_}
+use Prim.Native.Nat.{_+_, _-_, _*_, _≤_}
+use native.Mathlib.Omega.{arith}
+use Rattle.audit.proofs.whole.mark_byte.Statement.{statement}
+use Rattle.audit.proofs.whole.mark_byte.Tie as tie
+
+abbrev Inv-loop : tie.InvT-loop
+Inv-loop map₀ bits start j zeros at b first clear₀ k₀ map clear k = (k ≤ 8) × (clear ≤ 8 * j + k) × (length map ≡ length map₀) × (bitsMarked bits start (8 - k) (8 * j + k) (record { map = map; figures = clear }) ≡ bitsMarked bits start 8 (8 * j) (record { map = map₀; figures = zeros }))
+
+abbrev μ-loop : tie.MeasureT-loop
+μ-loop map₀ bits start j zeros at b first clear₀ k₀ map clear k = 8 - k
+
+shared-slice-read-b : tie.Need-shared-slice-read-b Inv-loop μ-loop
+shared-slice-read-b c = search needs
+
+mul-first : tie.Need-mul-first Inv-loop μ-loop
+mul-first c = search needs
+
+add-first : tie.Need-add-first Inv-loop μ-loop
+add-first c = search needs
+
+loop-holds : tie.Need-loop-holds Inv-loop μ-loop
+loop-holds c = (search needs, search needs, refl, rw add-zero refl)
+
+add-a : tie.Need-add-a Inv-loop μ-loop
+add-a c = search needs
+
+bit-of-requires : tie.Need-bit-of-requires Inv-loop μ-loop
+bit-of-requires c κs = search needs
+
+slice-read-with-bit : tie.Need-slice-read-with-bit Inv-loop μ-loop
+slice-read-with-bit c = search needs
+
+with-bit-requires : tie.Need-with-bit-requires Inv-loop μ-loop
+with-bit-requires c κs = search needs
+
+slice-write-map : tie.Need-slice-write-map Inv-loop μ-loop
+slice-write-map c = search needs
+
+zero-of-requires : tie.Need-zero-of-requires Inv-loop μ-loop
+zero-of-requires c κs = search needs
+
+add-clear : tie.Need-add-clear Inv-loop μ-loop
+add-clear c = search needs
+
+add-k : tie.Need-add-k Inv-loop μ-loop
+add-k c = search needs
+
+loop-less : tie.Need-loop-less Inv-loop μ-loop
+loop-less c = search needs
+
+loop-again : tie.Need-loop-again Inv-loop μ-loop
+loop-again c = (search needs, search needs, search needs, byte-more _ _ _ _ _ _ _ _ _ _ _ _ (search needs) refl (c .before .before .before .bit-of .ensures) (omega arith) (c .before .with-bit .ensures) (c .zero-of .ensures .0) (c .before .before .before .before .before .loop .inv .3))
+
+same-length : tie.Need-same-length Inv-loop μ-loop
+same-length c = search needs
+
+returns : tie.Need-returns Inv-loop μ-loop
+returns c = sym (bits-over _ _ _ _ _ _ (c .loop-test .left)) ∙ c .before .loop .inv .3
+
+pub mark-byte-spec : {M : Type 1} → statement M
+mark-byte-spec =
+    tie.close
+    (tie.spec
+    Inv-loop
+    μ-loop
+    shared-slice-read-b
+    mul-first
+    add-first
+    loop-holds
+    add-a
+    bit-of-requires
+    slice-read-with-bit
+    with-bit-requires
+    slice-write-map
+    zero-of-requires
+    add-clear
+    add-k
+    loop-less
+    loop-again
+    same-length
+    returns)
