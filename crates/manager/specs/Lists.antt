@@ -37,8 +37,8 @@ IndicesSeen sm r = (f : ℕ → List ℕ) → seenAs (values 2 sm (poolBitmaps s
 abbrev pub InfosSeen : List ℕ → Seen → Type 0
 InfosSeen sm r = (f : ℕ → List ℕ) → seenAs (values 8 sm (chunkInfoCount sm) (chunkInfosAt sm)) r ≡ run f (chunkInfos sm)
 
-abbrev pub IndexRead : List ℕ → ℕ → ℕ → Type 0
-IndexRead sm i r = Number 2 sm (poolIndicesAt sm + 2 * i) r
+abbrev pub IndexRead : List ℕ → ℕ → ℕ → ℕ → Type 0
+IndexRead sm at i r = Number 2 sm (at + 2 * i) r
 
 abbrev pub InfoRead : List ℕ → ℕ → ℕ → Type 0
 InfoRead sm i r = Number 8 sm (chunkInfosAt sm + 8 * i) r

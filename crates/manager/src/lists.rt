@@ -10,8 +10,9 @@ use blocks::Refusal;
 use blocks::Seen;
 ghost use mathlib.Core.Path.{_≡_};
 ghost use mathlib.Core.List.{List};
-ghost use Prim.Native.Nat.{ℕ, _<_, _≤_};
+ghost use Prim.Native.Nat.{ℕ, _+_, _*_, _<_, _≤_};
 ghost use lib.ListN.{length};
+ghost use Rattle.fields.specs.Fields.{Number};
 ghost use Rattle.manager.specs.Place.{bytesOf};
 ghost use Rattle.manager.specs.Lists.{FieldsSeen, ListSeen, EntryRead, IndicesSeen, InfosSeen, IndexRead, InfoRead};
 
@@ -47,16 +48,24 @@ fn told_list(image: &[u8], container: Container, m: Manager, w: u64, count: u64,
     list_there(m.size, w, at, n)
 }
 
-// Entry i of the list whose offset stands in a field; an entry past 2^64 is past the manager's end, and counts 0.
+// Entry i of the list at an offset; an entry past 2^64 is past the manager's end, and counts 0.
+fn entry(image: &[u8], container: Container, m: Manager, w: u64, at: u64, i: u64) -> u64
+    requires { ⌜ (0 < w) × (w ≤ 8) ⌝ }
+    ensures { λ r. ⌜ Number w (bytesOf (now (image .entry)) (container .size) m) (at + w * i) r ⌝ }
+{
+    if (u64::MAX - at) / w < i {
+        return 0;
+    }
+    place::number(image, container.size, m, at + w * i, w)
+}
+
+// Entry i of the list whose offset stands in a field.
 fn told_entry(image: &[u8], container: Container, m: Manager, w: u64, start: u64, i: u64) -> u64
     requires { ⌜ (0 < w) × (w ≤ 8) ⌝ }
     ensures { λ r. ⌜ EntryRead w start (bytesOf (now (image .entry)) (container .size) m) i r ⌝ }
 {
     let at = place::u32_of(image, container, m, start);
-    if (u64::MAX - at) / w < i {
-        return 0;
-    }
-    place::number(image, container.size, m, at + w * i, w)
+    entry(image, container, m, w, at, i)
 }
 
 // Whether the indices of the pool's bitmap blocks may all be read.
@@ -87,11 +96,11 @@ pub fn chunk_infos(image: &[u8], container: Container, m: Manager) -> Seen
     )
 }
 
-// Where pool bitmap block i lies in its ring.
-pub fn pool_index(image: &[u8], container: Container, m: Manager, i: u64) -> u64
-    ensures { λ r. ⌜ IndexRead (bytesOf (now (image .entry)) (container .size) m) i r ⌝ }
+// Where pool bitmap block i lies in its ring, by the list's offset.
+pub fn pool_index(image: &[u8], container: Container, m: Manager, at: u64, i: u64) -> u64
+    ensures { λ r. ⌜ IndexRead (bytesOf (now (image .entry)) (container .size) m) at i r ⌝ }
 {
-    told_entry(image, container, m, POOL_INDEX_WIDTH, POOL_INDICES_AT, i)
+    entry(image, container, m, POOL_INDEX_WIDTH, at, i)
 }
 
 // The address of chunk-info block i.

@@ -11,8 +11,6 @@ use Rattle.fields.specs.Fields.{bit, bitAt}
 use Rattle.fields.proofs.Laws.{below-limit}
 use Rattle.blocks.specs.declared.Container.{Container}
 use Rattle.block_map.specs.BlockMap.{usedAt}
-use Rattle.manager.specs.Manager.{poolBitmaps}
-use Rattle.manager.specs.Place.{placed}
 use Rattle.pool.specs.Pool.{Pool, poolIndex, poolMarked, unusedFrom}
 use Rattle.pool.specs.Unused.{unusedOne}
 use Rattle.pool.specs.Place.{ringPlace, bitmapBlock, bitmapByte, bitmapBytes, bitmapIn}
@@ -20,9 +18,6 @@ use Rattle.pool.specs.declared.PoolPlace.{PoolPlace}
 
 -- as many bytes as the bitmap's blocks have, each where its block is
 module _ (f : ℕ → List ℕ) (size : ℕ) (p : PoolPlace) where
-  abbrev pub bitmaps : ℕ
-  bitmaps = poolBitmaps (placed f size (p .manager))
-
   pub bytes-length : (left j : ℕ) → length (bitmapBytes f size p left j) ≡ left
   unfolding bitmapBytes
   bytes-length zero j = refl
@@ -33,29 +28,29 @@ module _ (f : ℕ → List ℕ) (size : ℕ) (p : PoolPlace) where
   bytes-at (suc left) j zero h = ap (bitmapByte f size p) (omega arith)
   bytes-at (suc left) j (suc i) h = bytes-at left (suc j) i (omega arith) ∙ ap (bitmapByte f size p) (omega arith)
 
-  pub bitmap-length : length (bitmapIn f size p) ≡ bitmaps * size
+  pub bitmap-length : length (bitmapIn f size p) ≡ p .bitmaps * size
   unfolding bitmapIn
-  bitmap-length = bytes-length (bitmaps * size) 0
+  bitmap-length = bytes-length (p .bitmaps * size) 0
 
-  pub bitmap-there : (j : ℕ) → j < bitmaps * size → getD (bitmapIn f size p) j 0 ≡ bitmapByte f size p j
+  pub bitmap-there : (j : ℕ) → j < p .bitmaps * size → getD (bitmapIn f size p) j 0 ≡ bitmapByte f size p j
   unfolding bitmapIn
-  bitmap-there j h = bytes-at (bitmaps * size) 0 j h ∙ ap (bitmapByte f size p) (omega arith)
+  bitmap-there j h = bytes-at (p .bitmaps * size) 0 j h ∙ ap (bitmapByte f size p) (omega arith)
 
-  pub bitmap-past : (j : ℕ) → bitmaps * size ≤ j → getD (bitmapIn f size p) j 0 ≡ 0
+  pub bitmap-past : (j : ℕ) → p .bitmaps * size ≤ j → getD (bitmapIn f size p) j 0 ≡ 0
   bitmap-past j h = List·getD-eq-default (bitmapIn f size p) 0 (omega (arith, bitmap-length))
 
   -- a byte by the number of its block
   pub byte-none : (j : ℕ) → size ≡ 0 → getD (bitmapIn f size p) j 0 ≡ 0
   byte-none j e = bitmap-past j (rw (e, mul-zero) (omega arith))
 
-  module _ (j n : ℕ) (some : 0 < size) (e : n ≡ bitmaps) where
-    pub byte-past : n ≤ j / size → getD (bitmapIn f size p) j 0 ≡ 0
-    byte-past h = bitmap-past j (le-div-iff-mul-le some .0 (rw e at h))
+  module _ (j : ℕ) (some : 0 < size) where
+    pub byte-past : p .bitmaps ≤ j / size → getD (bitmapIn f size p) j 0 ≡ 0
+    byte-past h = bitmap-past j (le-div-iff-mul-le some .0 h)
 
-    pub byte-there : j / size < n → (k : ℕ) → k ≡ ringPlace f size p (j / size) → (b : List ℕ) → b ≡ f (p .ring + k)
+    pub byte-there : j / size < p .bitmaps → (k : ℕ) → k ≡ ringPlace f size p (j / size) → (b : List ℕ) → b ≡ f (p .ring + k)
         → getD (bitmapIn f size p) j 0 ≡ getD b (j % size) 0
     unfolding bitmapByte bitmapBlock
-    byte-there h k q b r = bitmap-there j (div-lt-iff-lt-mul some .0 (rw e at h)) ∙ rw (r, q) refl
+    byte-there h k q b r = bitmap-there j (div-lt-iff-lt-mul some .0 h) ∙ rw (r, q) refl
 
 -- the block at a place of the pool, and the place of that block
 pub index-of : (base i : ℕ) → i < 2 ^ 64 → poolIndex (base + i) base ≡ i

@@ -21,7 +21,7 @@ use Rattle.blocks.specs.Answers.{seenAs}
 use Rattle.blocks.specs.declared.Seen.{Seen}
 use Rattle.blocks.specs.declared.Seen.the-variants.{There, Refused}
 use Rattle.blocks.proofs.Laws.{then-given, then-refused, need-true, need-false, need-held, both, block-length}
-use Rattle.manager.specs.Manager.{poolBase, poolBlocks, poolRingBase, poolIndicesAt}
+use Rattle.manager.specs.Manager.{poolBase, poolBlocks, poolRingBase, poolBitmaps, poolIndicesAt}
 use Rattle.manager.specs.Place.{placed}
 use Rattle.manager.specs.Lists.{values, IndicesSeen}
 use Rattle.manager.specs.declared.Manager.{Manager}
@@ -30,7 +30,7 @@ use Rattle.pool.specs.Pool.{Pool, bitmapsFrom, loadPool}
 use Rattle.pool.specs.Place.{ringPlace, bitmapBlock, bitmapByte, bitmapBytes, bitmapIn, poolIn}
 use Rattle.pool.specs.Load.{placeIn, joined, places, BitmapSeen, BitmapsSeen, poolFrom}
 use Rattle.pool.specs.declared.PoolPlace.{PoolPlace}
-use Rattle.pool.proofs.Laws.{bitmaps, bytes-length, bytes-at, bitmap-length}
+use Rattle.pool.proofs.Laws.{bytes-length, bytes-at, bitmap-length}
 
 -- block i, by the way that its tests go
 
@@ -52,7 +52,7 @@ module _ (f : ℕ → List ℕ) (c : Container) (p : PoolPlace) (i k : ℕ) (e :
 
 abbrev pub Left : (ℕ → List ℕ) → Container → PoolPlace → ℕ → ℕ → Type 0
 Left f c p n i =
-    run f (bitmapsFrom c (p .ring) (values 2 (placed f (c .size) (p .manager)) (n - i) (poolIndicesAt (placed f (c .size) (p .manager)) + 2 * i)) (joined f (c .size) p i))
+    run f (bitmapsFrom c (p .ring) (values 2 (placed f (c .size) (p .manager)) (n - i) (p .indices + 2 * i)) (joined f (c .size) p i))
     ≡ run f (bitmapsFrom c (p .ring) (places f (c .size) p n) [])
 
 module _ (f : ℕ → List ℕ) (c : Container) (p : PoolPlace) (n i : ℕ) where
@@ -67,13 +67,13 @@ module _ (f : ℕ → List ℕ) (c : Container) (p : PoolPlace) (n i : ℕ) wher
     more : n - i ≡ suc (n - (i + 1))
     more = omega arith
 
-    onwards : poolIndicesAt sm + 2 * i + 2 ≡ poolIndicesAt sm + 2 * (i + 1)
+    onwards : p .indices + 2 * i + 2 ≡ p .indices + 2 * (i + 1)
     onwards = omega arith
 
     pub left-more : s ≡ There → Left f c p n (i + 1)
     unfolding joined values
     left-more q =
-        let first = (rw q at goes) (values 2 sm (n - (i + 1)) (poolIndicesAt sm + 2 * i + 2)) (joined f (c .size) p i) in
+        let first = (rw q at goes) (values 2 sm (n - (i + 1)) (p .indices + 2 * i + 2)) (joined f (c .size) p i) in
         let grown : joined f (c .size) p (i + 1) ≡ joined f (c .size) p i ++ bitmapBlock f (c .size) p i = rw add-one refl in
         rw (grown, ← onwards) (sym first ∙ (rw more at left))
 
@@ -141,16 +141,16 @@ module _ (f : ℕ → List ℕ) (c : Container) (ring : ℕ) where
       each first rest (suc k) h = rest k (omega arith)
 
 -- every block of the bitmap was there with all its bytes, so that they are the bytes in place
-module _ (image : List ℕ) (c : Container) (p : PoolPlace) (n : ℕ) (holds : Holds image c) (seen : BitmapsSeen (blockOf image (c .size)) c p n There) where
-  there : (i : ℕ) → i < n → length (bitmapBlock (blockOf image (c .size)) (c .size) p i) ≡ c .size
+module _ (image : List ℕ) (c : Container) (p : PoolPlace) (holds : Holds image c) (seen : BitmapsSeen (blockOf image (c .size)) c p (p .bitmaps) There) where
+  there : (i : ℕ) → i < p .bitmaps → length (bitmapBlock (blockOf image (c .size)) (c .size) p i) ≡ c .size
   unfolding bitmapBlock
   there i h =
-      let below = inside (blockOf image (c .size)) c (p .ring) (places (blockOf image (c .size)) (c .size) p n) [] _ (sym seen) i (rw values-length h) in
-      block-length image (c .size) (c .count) _ (holds .fits) (rw (values-at 2 (placed (blockOf image (c .size)) (c .size) (p .manager)) n (poolIndicesAt (placed (blockOf image (c .size)) (c .size) (p .manager))) i h) at below)
+      let below = inside (blockOf image (c .size)) c (p .ring) (places (blockOf image (c .size)) (c .size) p (p .bitmaps)) [] _ (sym seen) i (rw values-length h) in
+      block-length image (c .size) (c .count) _ (holds .fits) (rw (values-at 2 (placed (blockOf image (c .size)) (c .size) (p .manager)) (p .bitmaps) (p .indices) i h) at below)
 
-  joined-in : n ≡ bitmaps (blockOf image (c .size)) (c .size) p → joined (blockOf image (c .size)) (c .size) p n ≡ bitmapIn (blockOf image (c .size)) (c .size) p
+  joined-in : joined (blockOf image (c .size)) (c .size) p (p .bitmaps) ≡ bitmapIn (blockOf image (c .size)) (c .size) p
   unfolding bitmapIn
-  joined-in e = rw (← e) (joined-bytes (blockOf image (c .size)) (c .size) p n there)
+  joined-in = joined-bytes (blockOf image (c .size)) (c .size) p (p .bitmaps) there
 
 -- whether the bitmap has a bit for each block, by division
 pub has-bits : (size n blocks : ℕ) → 0 < size → 0 < blocks → ltb ((blocks - 1) / 8 / size) n ≡ leb blocks (n * size * 8)
@@ -165,22 +165,22 @@ has-bits size n blocks some h = go (decLt ((blocks - 1) / 8 / size) n)
 -- the pool, by what was seen of its bitmap
 
 abbrev pub PoolRead : (ℕ → List ℕ) → Container → PoolPlace → Outcome Pool → Type 0
-PoolRead f c p o = o ≡ run f (poolFrom c p (places f (c .size) p (bitmaps f (c .size) p)))
+PoolRead f c p o = o ≡ run f (poolFrom c p (places f (c .size) p (p .bitmaps)))
 
-module _ (image : List ℕ) (c : Container) (p : PoolPlace) (n : ℕ) (s : Seen) (e : n ≡ bitmaps (blockOf image (c .size)) (c .size) p) (seen : BitmapsSeen (blockOf image (c .size)) c p n s) where
+module _ (image : List ℕ) (c : Container) (p : PoolPlace) (s : Seen) (seen : BitmapsSeen (blockOf image (c .size)) c p (p .bitmaps) s) where
   abbrev f : ℕ → List ℕ
   f = blockOf image (c .size)
 
   pub from-refused : (r : Refusal) → s ≡ Refused r → PoolRead f c p (refused r)
   unfolding poolFrom
-  from-refused r q = rw (← e) (sym (then-refused f _ _ r (sym (rw q at seen))))
+  from-refused r q = sym (then-refused f _ _ r (sym (rw q at seen)))
 
-  module _ (holds : Holds image c) (q : s ≡ There) (t : Bool) (k : t ≡ leb (p .blocks) (n * c .size * 8)) where
-    bits : run f (bitmapsFrom c (p .ring) (places f (c .size) p (bitmaps f (c .size) p)) []) ≡ given (bitmapIn f (c .size) p)
-    bits = let there : BitmapsSeen f c p n There = rw q at seen in rw (← e) (sym there ∙ ap given (joined-in image c p n holds there e))
+  module _ (holds : Holds image c) (q : s ≡ There) (t : Bool) (k : t ≡ leb (p .blocks) (p .bitmaps * c .size * 8)) where
+    bits : run f (bitmapsFrom c (p .ring) (places f (c .size) p (p .bitmaps)) []) ≡ given (bitmapIn f (c .size) p)
+    bits = let there : BitmapsSeen f c p (p .bitmaps) There = rw q at seen in sym there ∙ ap given (joined-in image c p holds there)
 
     enough : leb (p .blocks) (length (bitmapIn f (c .size) p) * 8) ≡ t
-    enough = rw (bitmap-length f (c .size) p, ← e) (sym k)
+    enough = rw (bitmap-length f (c .size) p) (sym k)
 
     pub from-given : t ≡ true → PoolRead f c p (given (poolIn f (c .size) p))
     unfolding run poolFrom
@@ -191,9 +191,9 @@ module _ (image : List ℕ) (c : Container) (p : PoolPlace) (n : ℕ) (s : Seen)
     from-short h = sym (then-given f _ _ _ bits ∙ need-false f _ _ _ (enough ∙ h))
 
 -- a place from its fields
-pub place-read : (sm : List ℕ) (m : Manager) (base blocks ring : ℕ) → base ≡ poolBase sm → blocks ≡ poolBlocks sm → ring ≡ poolRingBase sm
-    → record { manager = m; base = base; blocks = blocks; ring = ring } ≡ placeIn sm m
-place-read sm m base blocks ring p q r = rw (p, q, r) refl
+pub place-read : (sm : List ℕ) (m : Manager) (base blocks ring bitmaps indices : ℕ) → base ≡ poolBase sm → blocks ≡ poolBlocks sm → ring ≡ poolRingBase sm → bitmaps ≡ poolBitmaps sm → indices ≡ poolIndicesAt sm
+    → record { manager = m; base = base; blocks = blocks; ring = ring; bitmaps = bitmaps; indices = indices } ≡ placeIn sm m
+place-read sm m base blocks ring bitmaps indices p q r b i = rw (p, q, r, b, i) refl
 
 -- the pool, by what was seen of its list of indices
 module _ (f : ℕ → List ℕ) (c : Container) (m : Manager) (s : Seen) (seen : IndicesSeen (placed f (c .size) m) s) where

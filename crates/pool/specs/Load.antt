@@ -9,7 +9,7 @@ use Rattle.blocks.specs.Answers.{seenAs}
 use Rattle.blocks.specs.declared.Container.{Container}
 use Rattle.blocks.specs.declared.Refusal.the-variants.{BadBitmap}
 use Rattle.blocks.specs.declared.Seen.{Seen}
-use Rattle.manager.specs.Manager.{poolBase, poolBlocks, poolRingBase, poolIndicesAt}
+use Rattle.manager.specs.Manager.{poolBase, poolBlocks, poolRingBase, poolBitmaps, poolIndicesAt}
 use Rattle.manager.specs.Place.{placed}
 use Rattle.manager.specs.Lists.{values}
 use Rattle.manager.specs.Load.{onward}
@@ -20,7 +20,7 @@ use Rattle.pool.specs.declared.PoolPlace.{PoolPlace}
 
 -- where a manager's fields put the pool
 abbrev pub placeIn : List ℕ → Manager → PoolPlace
-placeIn sm m = record { manager = m; base = poolBase sm; blocks = poolBlocks sm; ring = poolRingBase sm }
+placeIn sm m = record { manager = m; base = poolBase sm; blocks = poolBlocks sm; ring = poolRingBase sm; bitmaps = poolBitmaps sm; indices = poolIndicesAt sm }
 
 -- the first n blocks of the bitmap, one after another
 unfoldable pub joined : (ℕ → List ℕ) → ℕ → PoolPlace → ℕ → List ℕ
@@ -29,7 +29,7 @@ joined f size p (suc n) = joined f size p n ++ bitmapBlock f size p n
 
 -- the places in the ring of n blocks
 abbrev pub places : (ℕ → List ℕ) → ℕ → PoolPlace → ℕ → List ℕ
-places f size p n = values 2 (placed f size (p .manager)) n (poolIndicesAt (placed f size (p .manager)))
+places f size p n = values 2 (placed f size (p .manager)) n (p .indices)
 
 -- block i: its refusal, or what the blocks after it come to
 abbrev pub BitmapSeen : (ℕ → List ℕ) → Container → PoolPlace → ℕ → Seen → Type 0

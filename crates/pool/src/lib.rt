@@ -13,7 +13,6 @@ ghost use Rattle.blocks.specs.Reads.{run};
 ghost use Rattle.blocks.specs.Blocks.{blockOf, Holds};
 ghost use Rattle.blocks.specs.Answers.{seenAs};
 ghost use Rattle.block_map.specs.BlockMap.{usedAt};
-ghost use Rattle.manager.specs.Manager.{poolBitmaps};
 ghost use Rattle.manager.specs.Place.{placed, bytesOf};
 ghost use Rattle.pool.specs.Pool.{loadPool, poolIndex, poolMarked, unusedFrom};
 ghost use Rattle.pool.specs.Place.{bitmapIn, poolIn};
@@ -22,12 +21,15 @@ ghost use Rattle.pool.specs.Load.{placeIn, places, BitmapSeen, BitmapsSe
 
 const BYTE_BITS: u64 = 8;
 
-// Where the pool lies, and through what its bitmap is found: the manager, and the ring of its bitmap blocks.
+// Where the pool lies, and through what its bitmap is found: the manager, the ring of its bitmap blocks, how many of these there
+// are, and where in the manager their places in the ring are listed.
 pub struct PoolPlace {
     pub manager: Manager,
     pub base: u64,
     pub blocks: u64,
     pub ring: u64,
+    pub bitmaps: u64,
+    pub indices: u64,
 }
 
 // The place of block a in the pool: blocks below its base wrap, and fall outside.
@@ -55,12 +57,12 @@ fn bitmap_byte(image: &[u8], container: Container, p: PoolPlace, j: u64) -> u8
     if size == 0 {
         return 0;
     }
-    let m = p.manager;
     let i = j / size;
-    if manager::place::u32_of(image, container, m, offsets::POOL_BITMAPS) <= i {
+    if p.bitmaps <= i {
         return 0;
     }
-    let k = manager::lists::pool_index(image, container, m, i);
+    let m = p.manager;
+    let k = manager::lists::pool_index(image, container, m, p.indices, i);
     let block = ring_block(image, size, p.ring, k);
     let at = (j % size) as usize;
     if block.len() <= at {
@@ -107,6 +109,8 @@ pub fn pool_place(image: &[u8], container: Container, m: Manager) -> PoolPlace
         base: manager::place::u64_of(image, container, m, offsets::POOL_BASE),
         blocks: manager::place::u64_of(image, container, m, offsets::POOL_BLOCKS),
         ring: manager::place::u64_of(image, container, m, offsets::POOL_RING),
+        bitmaps: manager::place::u32_of(image, container, m, offsets::POOL_BITMAPS),
+        indices: manager::place::u32_of(image, container, m, offsets::POOL_INDICES_AT),
     }
 }
 
@@ -115,7 +119,7 @@ fn bitmap_there(image: &[u8], container: Container, p: PoolPlace, i: u64) -> See
     ensures { λ r. ⌜ BitmapSeen (blockOf (now (image .entry)) (container .size)) container p i r ⌝ }
 {
     let m = p.manager;
-    let k = manager::lists::pool_index(image, container, m, i);
+    let k = manager::lists::pool_index(image, container, m, p.indices, i);
     if u64::MAX - p.ring < k {
         return Seen::Refused(Refusal::Overflow);
     }
@@ -154,15 +158,13 @@ fn has_bits(size: u64, n: u64, blocks: u64) -> bool
 // The pool, once the list of its bitmap's blocks is known to be whole.
 fn load_at(image: &[u8], container: Container, p: PoolPlace) -> Seen
     requires { ⌜ Holds (now image) container ⌝ }
-    ensures { λ r. ⌜ seenAs (poolIn (blockOf (now (image .entry)) (container .size)) (container .size) p) r ≡ run (blockOf (now (image .entry)) (container .size)) (poolFrom container p (places (blockOf (now (image .entry)) (container .size)) (container .size) p (poolBitmaps (bytesOf (now (image .entry)) (container .size) (p .manager))))) ⌝ }
+    ensures { λ r. ⌜ seenAs (poolIn (blockOf (now (image .entry)) (container .size)) (container .size) p) r ≡ run (blockOf (now (image .entry)) (container .size)) (poolFrom container p (places (blockOf (now (image .entry)) (container .size)) (container .size) p (p .bitmaps))) ⌝ }
 {
-    let m = p.manager;
-    let n = manager::place::u32_of(image, container, m, offsets::POOL_BITMAPS);
-    let seen = bitmaps_there(image, container, p, n);
+    let seen = bitmaps_there(image, container, p, p.bitmaps);
     match seen {
         Seen::Refused(r) => Seen::Refused(r),
         Seen::There => {
-            if has_bits(container.size, n, p.blocks) {
+            if has_bits(container.size, p.bitmaps, p.blocks) {
                 Seen::There
             } else {
                 Seen::Refused(Refusal::BadBitmap)

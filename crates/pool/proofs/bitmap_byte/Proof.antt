@@ -12,11 +12,8 @@ returns c = sym (byte-none _ _ _ _ (c .if1 .taken))
 div-i : tie.Need-div-i
 div-i c = search needs
 
-u32-of-requires : tie.Need-u32-of-requires
-u32-of-requires c κs = search needs
-
 returns-2 : tie.Need-returns-2
-returns-2 c = sym (byte-past _ _ _ _ _ (omega arith) (c .before .u32-of .ensures .is) (c .if2 .taken))
+returns-2 c = sym (byte-past _ _ _ _ (omega arith) (c .if2 .taken))
 
 pool-index-requires : tie.Need-pool-index-requires
 pool-index-requires c κs = search needs
@@ -28,13 +25,13 @@ rem-at : tie.Need-rem-at
 rem-at c = search needs
 
 returns-3 : tie.Need-returns-3
-returns-3 c = sym (byte-there _ _ _ _ _ (omega arith) (c .before .before .before .before .u32-of .ensures .is) (omega arith) _ (c .before .before .pool-index .ensures .is) _ (c .before .ring-block .ensures) ∙ List·getD-eq-default (c .before .ring-block .result .now) 0 (c .if3 .taken))
+returns-3 c = sym (byte-there _ _ _ _ (omega arith) (omega arith) _ (c .before .before .pool-index .ensures .is) _ (c .before .ring-block .ensures) ∙ List·getD-eq-default (c .before .ring-block .result .now) 0 (c .if3 .taken))
 
 shared-slice-read-result : tie.Need-shared-slice-read-result
 shared-slice-read-result c = search needs
 
 returns-4 : tie.Need-returns-4
-returns-4 c = sym (byte-there _ _ _ _ _ (omega arith) (c .before .before .before .before .before .u32-of .ensures .is) (omega arith) _ (c .before .before .before .pool-index .ensures .is) _ (c .before .before .ring-block .ensures))
+returns-4 c = sym (byte-there _ _ _ _ (omega arith) (omega arith) _ (c .before .before .before .pool-index .ensures .is) _ (c .before .before .ring-block .ensures))
 
 pub bitmap-byte-spec : {M : Type 1} → statement M
 bitmap-byte-spec =
@@ -42,7 +39,6 @@ bitmap-byte-spec =
     (tie.spec
     returns
     div-i
-    u32-of-requires
     returns-2
     pool-index-requires
     ring-block-requires
