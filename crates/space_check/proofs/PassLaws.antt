@@ -1,16 +1,15 @@
 -- Laws of the pass's stages, and that they are the definition's pass.
 use mathlib.Core.Path.{_≡_, refl, sym, ap, _∙_}
 use mathlib.Core.List.{List}
-use Prim.Native.Nat.{ℕ, suc, _+_, _-_, _≤_, _<_}
+use Prim.Native.Nat.{ℕ, suc, _+_, _-_, _≤_}
 use native.Mathlib.Omega.{arith}
-use Rattle.blocks.specs.Reads.{Reads, done, Outcome, given, refused, run, _>>=_}
+use Rattle.blocks.specs.Reads.{Reads, done, given, refused, run, _>>=_}
 use Rattle.blocks.proofs.Laws.{then-given, then-refused, both}
 use Rattle.blocks.specs.declared.Address.{Address}
 use Rattle.blocks.specs.declared.Container.{Container}
 use Rattle.blocks.specs.declared.Refusal.{Refusal}
 use Rattle.nodes.specs.Node.{readNode, describe}
 use Rattle.nodes.specs.ObjectMap.{readObjectMap, describeMap, loadObjectMap}
-use Rattle.nodes.specs.Scan.{scan}
 use Rattle.nodes.specs.Walk.{walk}
 use Rattle.nodes.proofs.Laws.{node-given}
 use Rattle.nodes.specs.declared.Description.{Description}
@@ -25,9 +24,8 @@ use Rattle.report.specs.declared.Step.the-variants.{Done}
 use Rattle.audit.specs.Answers.{Stepped}
 use Rattle.audit.proofs.Laws.{stepped-done}
 use Rattle.pool.specs.Pool.{Pool, loadPool}
-use Rattle.claims.specs.Claims.{claim, claimNode, claimMapping}
+use Rattle.claims.specs.Claims.{claim, claimNode}
 use Rattle.trees.specs.Visits.{mappedIn, mappingsIn}
-use Rattle.trees.proofs.ScanLaws.{bind-assoc, bind-cong}
 use Rattle.trees.specs.declared.Checkpoint.{Checkpoint}
 use Rattle.space_check.specs.Check.{claimObjects}
 use Rattle.space_check.specs.Stages.{Parts, superblockOf, poolPart, managerPart, loadParts, areaOf, areasFrom}
@@ -99,9 +97,9 @@ module _ (f : ℕ → List ℕ) (k : Checkpoint) where
     unfolding claimObjects
     objects-undescribed r q = then-given f _ _ b e ∙ then-refused f _ _ r q
 
-    pub objects-described : (d : Description) → run f (describe b) ≡ given d → run f (claimObjects (k .container) root s) ≡ run f (walk (claimNode (k .container)) (k .container) d root s >>= mappingsIn (k .container) b)
+    pub objects-described : (d : Description) → run f (describe b) ≡ given d → run f (claimObjects (k .container) root s) ≡ run f (walk (claimNode (k .container)) (k .container) d root s >>= mappingsIn (k .container) d b)
     unfolding claimObjects mappingsIn
-    objects-described d q = then-given f _ _ b e ∙ then-given f _ _ d q ∙ bind-cong f (walk (claimNode (k .container)) (k .container) d root s) _ _ (λ t. sym (then-given f (describe b) _ d q))
+    objects-described d q = then-given f _ _ b e ∙ then-given f _ _ d q
 
 -- a step that was done, and what is made of what it left
 pub made : {F R : Type 0} {f : ℕ → List ℕ} {count : ℕ} {step : Step} {before after : List ℕ} {figures : F} {p : Reads (Marked F)} (h : Stepped f count step before after figures p) (make : Marked F → R) (x : R)

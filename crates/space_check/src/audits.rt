@@ -55,7 +55,7 @@ pub fn audit_all(image: &[u8], map: &mut [u8], k: Checkpoint, x: Found) -> Audit
     }
 }
 
-// Claim 7: the nodes of the object map's tree.
+// Claims 7 and 8: the nodes of the object map's tree, then its mappings, for which no node is read again.
 fn claim_nodes(
     image: &[u8],
     map: &mut [u8],
@@ -81,7 +81,7 @@ fn claim_nodes(
                 Step::Refused(_) => walked,
                 Step::Done => {
                     let log = walked.log;
-                    trees::queues::claim_mappings(image, map, k, p, root.0, log)
+                    trees::queues::claim_mappings(image, map, k, p, d, root.0, log)
                 }
             }
         }

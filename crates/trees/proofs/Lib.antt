@@ -2,5 +2,6 @@
 pub mod ChildLaws
 pub mod ScanLaws
 pub mod WalkLaws
+pub mod ReadLaws
 pub mod VisitLaws
 pub mod QueueLaws

@@ -68,6 +68,6 @@ module _ (f : ℕ → List ℕ) (k : Checkpoint) (place : PoolPlace) where
   claim-queue a Nowhere s = refl
   claim-queue a (To m) s = wider-after f (withOverlaps a) (readNode (k .container) (m .address)) _ _ (λ b. wider-after f (withOverlaps a) (describe b) _ _ (λ d. scan-wider f (withOverlaps a) _ _ (λ e t. mapped-bind f (withOverlaps a) _) d _ b s))
 
-  pub claim-mappings : (a : Audit) (b : List ℕ) (s : Marked OverlapLog) → run f (scanRoot f k place Mappings b (withOverlaps a s)) ≡ mapped (withOverlaps a) (run f (mappingsIn (k .container) b s))
-  unfolding scanRoot mappingsIn visitFor childFor
-  claim-mappings a b s = wider-after f (withOverlaps a) (describe b) _ _ (λ d. scan-wider f (withOverlaps a) _ _ (λ e t. mapped-bind f (withOverlaps a) _) d _ b s)
+  pub claim-mappings : (a : Audit) (d : Description) (b : List ℕ) (s : Marked OverlapLog) → run f (scan (visitFor (k .container) (poolIn f (k .container .size) place) Mappings) d (childFor (k .container) (mappedIn f k) Mappings) b (withOverlaps a s)) ≡ mapped (withOverlaps a) (run f (mappingsIn (k .container) d b s))
+  unfolding mappingsIn visitFor childFor
+  claim-mappings a d b s = scan-wider f (withOverlaps a) _ _ (λ e t. mapped-bind f (withOverlaps a) _) d _ b s

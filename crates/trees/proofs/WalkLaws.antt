@@ -40,7 +40,7 @@ module _ (f : ℕ → List ℕ) (d : Description) (b : List ℕ) where
   abbrev pub childrenLeft : ℕ → ℕ → List ℕ → Outcome (List ℕ)
   childrenLeft left i found = run f (childrenFrom d b left i found)
 
-  children-step : (left i : ℕ) (found : List ℕ) → childrenLeft (suc left) i found ≡ run f (pointerOf d b i >>= λ a. childrenFrom d b left (i + 1) (a ∷ found))
+  pub children-step : (left i : ℕ) (found : List ℕ) → childrenLeft (suc left) i found ≡ run f (pointerOf d b i >>= λ a. childrenFrom d b left (i + 1) (a ∷ found))
   unfolding childrenFrom
   children-step left i found = sym (bind-assoc f (entry d b i) (λ e. pointer (e .value)) (λ a. childrenFrom d b left (i + 1) (a ∷ found)))
 

@@ -110,6 +110,6 @@ module _ {S : Type 0} (c : Container) (mapped : ℕ → Mapped) (visit : S → E
 abbrev pub queueIn : {S : Type 0} → (ℕ → List ℕ) → Checkpoint → (S → Entry → Reads S) → ObjectId → S → Reads S
 queueIn f k visit root s = queueFrom (k .container) (mappedIn f k) visit (mappedIn f k (root .0)) s
 
--- the mappings of an object map whose tree's root is b
-unfoldable pub mappingsIn : Container → List ℕ → Marked OverlapLog → Reads (Marked OverlapLog)
-mappingsIn c b s = describe b >>= λ d. scan (claimMapping c) d (λ a. readNode c (record { 0 = a })) b s
+-- the mappings of an object map whose tree has a description and the root b
+unfoldable pub mappingsIn : Container → Description → List ℕ → Marked OverlapLog → Reads (Marked OverlapLog)
+mappingsIn c d b s = scan (claimMapping c) d (λ a. readNode c (record { 0 = a })) b s

@@ -2,7 +2,6 @@
 use crate::Checkpoint;
 use crate::Purpose;
 use crate::Tree;
-use blocks::Address;
 use blocks::ObjectId;
 use blocks::Refusal;
 use blocks::Seen;
@@ -26,6 +25,7 @@ ghost use Rattle.queue.specs.Queue.{nodeBy};
 ghost use Rattle.queue.specs.Answers.{childIn};
 ghost use Rattle.trees.specs.Visits.{childFor, mappedIn, treeChild, pointerPast, oneBelow, childBelow};
 ghost use Rattle.trees.specs.Walks.{pointerOf as pointerIn, pointerAt, pointersDown};
+ghost use Rattle.trees.specs.Read.{NodeRead, WalkedFor, ChildRead};
 
 // The child pointer of entry i.
 fn pointer_of(node: &[u8], d: Description, i: u64) -> Pointer
@@ -118,14 +118,13 @@ fn child_by_id(image: &[u8], k: Checkpoint, id: u64) -> Child
     queue::node_by(image, container, g, sb, ObjectId(id))
 }
 
+// A child of the object map's tree was read before the tree is scanned; a queue's child is read here.
 fn child_for(image: &[u8], k: Checkpoint, purpose: Purpose, n: u64) -> Child
+    requires { ⌜ WalkedFor purpose (NodeRead (blockOf (now image) (k .container .size)) (k .container) n) ⌝ }
     ensures { λ r. ⌜ childIn (blockOf (now (image .entry)) (k .container .size)) r ≡ run (blockOf (now (image .entry)) (k .container .size)) (childFor (k .container) (mappedIn (blockOf (now (image .entry)) (k .container .size)) k) purpose n) ⌝ }
 {
     match purpose {
-        Purpose::Mappings => {
-            let container = k.container;
-            queue::child_at(image, container, Address(n))
-        }
+        Purpose::Mappings => Child::At(n),
         Purpose::PoolQueue => child_by_id(image, k, n),
         Purpose::MainQueue => child_by_id(image, k, n),
     }
@@ -145,7 +144,7 @@ fn one_below(image: &[u8], size: u64, n: u64, level: u64) -> Child
 
 // Child i of the n that an index node of a level has.
 pub fn next_child(image: &[u8], t: Tree, node: &[u8], level: u64, i: u64, n: u64) -> Child
-    requires { ⌜ i < n ⌝ }
+    requires { ⌜ (i < n) × ChildRead (blockOf (now image) (t .checkpoint .container .size)) t (now node) i ⌝ }
     ensures { λ r. ⌜ childIn (blockOf (now (image .entry)) (t .checkpoint .container .size)) r ≡ run (blockOf (now (image .entry)) (t .checkpoint .container .size)) (childBelow (t .description) (treeChild (blockOf (now (image .entry)) (t .checkpoint .container .size)) t) level (now (node .entry)) (n - (i + 1)) i) ⌝ }
 {
     let d = t.description;

@@ -15,9 +15,11 @@ use blocks::Seen;
 use checkpoint::Mapped;
 use claims::Claimed;
 use nodes::Described;
+use nodes::Description;
 use pool::PoolPlace;
 use report::OverlapLog;
 ghost use mathlib.Core.Path.{_≡_};
+ghost use mathlib.Core.Logic.{_≢_};
 ghost use Rattle.blocks.specs.Blocks.{blockOf};
 ghost use Rattle.report.specs.Report.{noProblems};
 ghost use Rattle.audit.specs.Audit.{auditQueued};
@@ -25,9 +27,11 @@ ghost use Rattle.audit.specs.Answers.{Audits, poolAt};
 ghost use Rattle.claims.specs.Claims.{claimQueued};
 ghost use Rattle.claims.specs.Answers.{owned};
 ghost use Rattle.trees.specs.Visits.{scanRoot, scanFor, queueIn, mappingsIn};
+ghost use Rattle.trees.specs.Read.{TreeRead};
+ghost use Rattle.trees.specs.declared.Purpose.the-variants.{Mappings};
 ghost use Rattle.trees.specs.Answers.{Visits, WalksWhole, figured};
 
-// The tree whose root was read from block at.
+// The queue whose root was read from block at.
 fn scan_root(
     image: &[u8],
     map: &mut [u8],
@@ -37,6 +41,7 @@ fn scan_root(
     at: u64,
     figures: Figures,
 ) -> Visited
+    requires { ⌜ purpose ≢ Mappings ⌝ }
     ensures { λ r. ⌜ Visits (now (image .entry)) k r (now (map .entry)) (now (map .exit)) (scanRoot (blockOf (now (image .entry)) (k .container .size)) k place purpose (blockOf (now (image .entry)) (k .container .size) at) (figured (now (map .entry)) figures)) ⌝ }
 {
     let container = k.container;
@@ -65,6 +70,7 @@ fn scan_queue(
     root: ObjectId,
     figures: Figures,
 ) -> Visited
+    requires { ⌜ purpose ≢ Mappings ⌝ }
     ensures { λ r. ⌜ Visits (now (image .entry)) k r (now (map .entry)) (now (map .exit)) (scanFor (blockOf (now (image .entry)) (k .container .size)) k place purpose root (figured (now (map .entry)) figures)) ⌝ }
 {
     let mapped = mapped_at(image, k, root.0);
@@ -136,20 +142,27 @@ pub fn claim_queue(
     Claimed { step, log }
 }
 
-// The mappings of the object map whose tree's root is in block at, claimed.
+// The mappings of the object map whose tree was walked: its description, and the block of its root.
 pub fn claim_mappings(
     image: &[u8],
     map: &mut [u8],
     k: Checkpoint,
     place: PoolPlace,
+    d: Description,
     at: u64,
     log: OverlapLog,
 ) -> Claimed
-    ensures { λ r. ⌜ WalksWhole (now (image .entry)) (k .container) r (now (map .entry)) (now (map .exit)) (mappingsIn (k .container) (blockOf (now (image .entry)) (k .container .size) at) (owned (now (map .entry)) log)) ⌝ }
+    requires { ⌜ TreeRead (blockOf (now image) (k .container .size)) (k .container) d (blockOf (now image) (k .container .size) at) ⌝ }
+    ensures { λ r. ⌜ WalksWhole (now (image .entry)) (k .container) r (now (map .entry)) (now (map .exit)) (mappingsIn (k .container) d (blockOf (now (image .entry)) (k .container .size) at) (owned (now (map .entry)) log)) ⌝ }
 {
     let figures = unaudited(log);
-    let purpose = Purpose::Mappings;
-    let visited = scan_root(image, map, k, place, purpose, at, figures);
+    let t = Tree {
+        checkpoint: k,
+        pool: place,
+        purpose: Purpose::Mappings,
+        description: d,
+    };
+    let visited = scan(image, map, t, at, figures);
     let step = visited.step;
     let figures = visited.figures;
     let log = figures.overlaps;

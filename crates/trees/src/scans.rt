@@ -16,6 +16,7 @@ ghost use Rattle.nodes.specs.Node.{keyCount};
 ghost use Rattle.nodes.specs.Scan.{leafFrom, scanNode, below, scan as scanOf};
 ghost use Rattle.queue.specs.Answers.{placesIn};
 ghost use Rattle.trees.specs.Visits.{treeVisit, treeChild};
+ghost use Rattle.trees.specs.Read.{ScanRead};
 ghost use Rattle.trees.specs.declared.Purpose.the-variants.{PoolQueue, Mappings, MainQueue};
 ghost use Rattle.trees.specs.Answers.{Visits, figured};
 
@@ -148,6 +149,7 @@ fn scan_node(
     level: u64,
     figures: Figures,
 ) -> Visited
+    requires { ⌜ ScanRead (blockOf (now image) (t .checkpoint .container .size)) t (blockOf (now image) (t .checkpoint .container .size) at) ⌝ }
     ensures { λ r. ⌜ Visits (now (image .entry)) (t .checkpoint) r (now (map .entry)) (now (map .exit)) (scanNode (treeVisit (blockOf (now (image .entry)) (t .checkpoint .container .size)) t (t .purpose)) (t .description) (treeChild (blockOf (now (image .entry)) (t .checkpoint .container .size)) t) (below (treeVisit (blockOf (now (image .entry)) (t .checkpoint .container .size)) t (t .purpose)) (t .description) (treeChild (blockOf (now (image .entry)) (t .checkpoint .container .size)) t) level) (blockOf (now (image .entry)) (t .checkpoint .container .size) at) (figured (now (map .entry)) figures)) ⌝ }
 {
     let k = t.checkpoint;
@@ -181,6 +183,7 @@ fn scan_node(
 
 // All entries of the tree whose root is in block at.
 pub fn scan(image: &[u8], map: &mut [u8], t: Tree, at: u64, figures: Figures) -> Visited
+    requires { ⌜ ScanRead (blockOf (now image) (t .checkpoint .container .size)) t (blockOf (now image) (t .checkpoint .container .size) at) ⌝ }
     ensures { λ r. ⌜ Visits (now (image .entry)) (t .checkpoint) r (now (map .entry)) (now (map .exit)) (scanOf (treeVisit (blockOf (now (image .entry)) (t .checkpoint .container .size)) t (t .purpose)) (t .description) (treeChild (blockOf (now (image .entry)) (t .checkpoint .container .size)) t) (blockOf (now (image .entry)) (t .checkpoint .container .size) at) (figured (now (map .entry)) figures)) ⌝ }
 {
     let k = t.checkpoint;

@@ -1,7 +1,8 @@
 use Rattle.blocks.specs.Blocks.{blockOf}
 use mathlib.Core.Path.{sym, ap, _∙_}
 use Rattle.trees.proofs.VisitLaws.{same-run}
-use Rattle.audit.proofs.Laws.{step-then, step-stop, left-refused}
+use Rattle.audit.proofs.Laws.{stepped-done, step-then, step-stop, left-refused}
+use Rattle.trees.proofs.ReadLaws.{walk-read}
 use Rattle.blocks.specs.Reads.{run}
 use Rattle.nodes.specs.Node.{describe}
 use Rattle.nodes.specs.Answers.{describedAs}
@@ -46,7 +47,7 @@ enum-told-2 c = search needs
 
 -- src/audits.rt:87:21
 claim-mappings-requires : tie.Need-claim-mappings-requires
-claim-mappings-requires c κs = search needs
+claim-mappings-requires c κs = walk-read _ _ _ _ _ _ _ (stepped-done (c .before .before .before .before .before .before .walk .ensures) (c .before .before .enum-told2 .given .1))
 
 -- src/audits.rt:62:1
 returns : tie.Need-returns

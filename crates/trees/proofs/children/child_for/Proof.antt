@@ -1,4 +1,5 @@
-use mathlib.Core.Path.{refl, _∙_}
+use mathlib.Core.Path.{refl, sym, _∙_}
+use Rattle.trees.proofs.ReadLaws.{child-known}
 use Rattle.trees.specs.Visits.{childFor}
 use borrow.Author.Needs.{needs}
 use Rattle.trees.proofs.children.child_for.Statement.{statement}
@@ -6,9 +7,6 @@ use Rattle.trees.proofs.children.child_for.Tie as tie
 
 enum-told : tie.Need-enum-told
 enum-told c = search needs
-
-child-at-requires : tie.Need-child-at-requires
-child-at-requires c κs = search needs
 
 enum-told-2 : tie.Need-enum-told-2
 enum-told-2 c = search needs
@@ -23,8 +21,7 @@ child-by-id-requires-2 : tie.Need-child-by-id-requires-2
 child-by-id-requires-2 c κs = search needs
 
 returns : tie.Need-returns
-unfolding childFor
-returns c = c .child-at .ensures ∙ rw (c .before .before .enum-told .given .1) refl
+returns c = sym (child-known _ _ _ _ _ (c .enum-told .given .1) (c .before .before .before .pre))
 
 returns-2 : tie.Need-returns-2
 unfolding childFor
@@ -39,7 +36,6 @@ child-for-spec =
     tie.close
     (tie.spec
     enum-told
-    child-at-requires
     enum-told-2
     child-by-id-requires
     enum-told-3

@@ -2,6 +2,7 @@ use mathlib.Core.Path.{sym, ap, _∙_}
 use Rattle.queue.specs.Answers.{childIn}
 use Rattle.nodes.specs.Answers.{pointerAs}
 use Rattle.trees.proofs.ChildLaws.{child-pointless, child-unread, child-read}
+use Rattle.trees.proofs.ReadLaws.{pointer-known}
 use borrow.Author.Needs.{needs}
 use Rattle.trees.proofs.children.next_child.Statement.{statement}
 use Rattle.trees.proofs.children.next_child.Tie as tie
@@ -16,7 +17,7 @@ enum-known-pointer-2 : tie.Need-enum-known-pointer-2
 enum-known-pointer-2 c = search needs
 
 child-for-requires : tie.Need-child-for-requires
-child-for-requires c κs = search needs
+child-for-requires c κs = pointer-known _ (c .before .before .before .before .before .before .before .before .args .t) _ _ _ _ (c .before .before .before .before .before .before .before .before .pre .1) (sym (c .before .before .before .pointer-past .ensures _) ∙ ap pointerAs (c .before .pointer2 .given .1))
 
 enum-known-child : tie.Need-enum-known-child
 enum-known-child c = search needs

@@ -2,6 +2,7 @@ use mathlib.Core.Path.{refl}
 use Rattle.trees.specs.declared.Figures.{Figures}
 use Rattle.audit.specs.declared.Audit.{Audit}
 use Rattle.trees.proofs.QueueLaws.{audit-queue}
+use Rattle.trees.proofs.ReadLaws.{pool-queue-else}
 use Rattle.trees.proofs.VisitLaws.{narrower}
 use borrow.Author.Needs.{needs}
 use Rattle.trees.proofs.queues.audit_queue.Statement.{statement}
@@ -11,7 +12,7 @@ no-overlaps-requires : tie.Need-no-overlaps-requires
 no-overlaps-requires c κs = search needs
 
 scan-queue-requires : tie.Need-scan-queue-requires
-scan-queue-requires c κs = search needs
+scan-queue-requires c κs = pool-queue-else
 
 same-length : tie.Need-same-length
 same-length c = c .before .before .before .before .scan-queue .ensures .kept .long

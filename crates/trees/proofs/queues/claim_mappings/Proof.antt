@@ -11,15 +11,15 @@ use Rattle.trees.proofs.queues.claim_mappings.Tie as tie
 unaudited-requires : tie.Need-unaudited-requires
 unaudited-requires c κs = search needs
 
-scan-root-requires : tie.Need-scan-root-requires
-scan-root-requires c κs = search needs
+scan-requires : tie.Need-scan-requires
+scan-requires c κs = λ p. c .before .before .before .before .pre
 
 same-length : tie.Need-same-length
-same-length c = c .before .before .before .before .scan-root .ensures .kept .long
+same-length c = c .before .before .before .before .scan .ensures .kept .long
 
 returns : tie.Need-returns
-returns c = narrower (λ (o : OverlapLog). record { audit = record { problems = noProblems; free = 0; wrong = 0 }; overlaps = o }) (λ (x : Figures). x .overlaps) _ (c .before .before .before .before .scan-root .ensures) (λ x. refl) (rw (c .before .before .before .before .before .before .unaudited .ensures) (claim-mappings _ _ _ _ _ _))
+returns c = narrower (λ (o : OverlapLog). record { audit = record { problems = noProblems; free = 0; wrong = 0 }; overlaps = o }) (λ (x : Figures). x .overlaps) _ (c .before .before .before .before .scan .ensures) (λ x. refl) (rw (c .before .before .before .before .before .before .unaudited .ensures) (claim-mappings _ _ _ _ _ _ _))
 
 pub claim-mappings-spec : {M : Type 1} → statement M
 claim-mappings-spec =
-    tie.close (tie.spec unaudited-requires scan-root-requires same-length returns)
+    tie.close (tie.spec unaudited-requires scan-requires same-length returns)

@@ -3,6 +3,7 @@ use Rattle.trees.specs.declared.Figures.{Figures}
 use Rattle.report.specs.declared.OverlapLog.{OverlapLog}
 use Rattle.report.specs.Report.{noProblems}
 use Rattle.trees.proofs.QueueLaws.{claim-queue}
+use Rattle.trees.proofs.ReadLaws.{main-queue-else}
 use Rattle.trees.proofs.VisitLaws.{narrower}
 use borrow.Author.Needs.{needs}
 use Rattle.trees.proofs.queues.claim_queue.Statement.{statement}
@@ -12,7 +13,7 @@ unaudited-requires : tie.Need-unaudited-requires
 unaudited-requires c κs = search needs
 
 scan-queue-requires : tie.Need-scan-queue-requires
-scan-queue-requires c κs = search needs
+scan-queue-requires c κs = main-queue-else
 
 same-length : tie.Need-same-length
 same-length c = c .before .before .before .before .scan-queue .ensures .kept .long

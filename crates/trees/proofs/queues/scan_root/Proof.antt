@@ -22,7 +22,7 @@ enum-known-described-2 : tie.Need-enum-known-described-2
 enum-known-described-2 c = search needs
 
 scan-requires : tie.Need-scan-requires
-scan-requires c κs = search needs
+scan-requires c κs = λ p. absurd (c .before .before .before .before .before .before .before .before .before .pre p)
 
 returns : tie.Need-returns
 returns c = visit-refused _ _ _ _ _ (c .refused .ensures) (rw (← c .before .before .before .before .before .block .ensures) (root-undescribed _ _ _ _ _ _ _ (sym (c .before .before .before .before .describe .ensures _) ∙ ap describedAs (c .before .before .described .given .1))))

@@ -13,6 +13,7 @@ use Rattle.trees.specs.Answers.{figured}
 use Rattle.trees.specs.Visits.{treeVisit, treeChild}
 use Rattle.trees.proofs.ScanLaws.{indexLeft, pred-less, scan-leaf, scan-index, index-done, index-refused, index-stops, index-more}
 use Rattle.trees.proofs.ChildLaws.{child-level}
+use Rattle.trees.proofs.ReadLaws.{entry-read, child-scanned}
 use Rattle.trees.proofs.VisitLaws.{Left, left-more, left-stop, left-done, left-refused}
 use borrow.Fn.Kinds.{In}
 use borrow.Fn.PlainCycle.{Measures, is, falls, and}
@@ -74,7 +75,7 @@ scan-node-loop-holds : (t : ℕ) → scan-node-lts.Need-loop-holds (calls t) (sc
 scan-node-loop-holds t c = record { goes = rw (sub-zero, c .key-count .ensures .0) refl; kept = kept-same _ _ }
 
 scan-node-next-child-requires : (t : ℕ) → scan-node-lts.Need-next-child-requires (calls t) (scan-node-at t) scan-node.Post scan-node-Inv-loop scan-node-μ-loop
-scan-node-next-child-requires t c κs = search needs
+scan-node-next-child-requires t c κs = (search needs, entry-read _ (c .before .before .before .before .before .before .before .before .before .before .args .t) _ (c .before .before .before .before .before .before .before .before .before .before .pre .1) _ (c .before .before .before .before .before .block .ensures) (sym (c .before .before .before .before .is-leaf .ensures) ∙ c .before .before .before .if1 .left) _ _ (c .before .before .key-count .ensures .0) (c .loop-test .taken))
 
 scan-node-enum-known-child : (t : ℕ) → scan-node-lts.Need-enum-known-child (calls t) (scan-node-at t) scan-node.Post scan-node-Inv-loop scan-node-μ-loop
 scan-node-enum-known-child t c = search needs
@@ -95,7 +96,7 @@ scan-node-sub-scan-node : (t : ℕ) → scan-node-lts.Need-sub-scan-node (calls 
 scan-node-sub-scan-node t c = omega (arith, child-level _ _ _ (c .before .before .before .before .before .before .before .before .before .before .before .before .before .before .before .args .level) _ _ _ _ (sym (c .before .before .before .before .next-child .ensures) ∙ ap (childIn _) (c .before .before .child2 .given .1)))
 
 scan-node-scan-node-requires : (t : ℕ) → scan-node-lts.Need-scan-node-requires (calls t) (scan-node-at t) scan-node.Post scan-node-Inv-loop scan-node-μ-loop
-scan-node-scan-node-requires t c κs = (omega (arith, child-level _ _ _ (c .before .before .before .before .before .before .before .before .before .before .before .before .before .before .before .args .level) _ _ _ _ (sym (c .before .before .before .before .next-child .ensures) ∙ ap (childIn _) (c .before .before .child2 .given .1))), tt)
+scan-node-scan-node-requires t c κs = (omega (arith, child-level _ _ _ (c .before .before .before .before .before .before .before .before .before .before .before .before .before .before .before .args .level) _ _ _ _ (sym (c .before .before .before .before .next-child .ensures) ∙ ap (childIn _) (c .before .before .child2 .given .1))), child-scanned _ (c .before .before .before .before .before .before .before .before .before .before .before .before .before .before .before .args .t) _ (c .before .before .before .before .before .before .before .before .before .before .before .before .before .before .before .pre .1) _ (c .before .before .before .before .before .before .before .before .before .before .block .ensures) (sym (c .before .before .before .before .before .before .before .before .before .is-leaf .ensures) ∙ c .before .before .before .before .before .before .before .before .if1 .left) _ _ (c .before .before .before .before .before .before .before .key-count .ensures .0) (c .before .before .before .before .before .loop-test .taken) _ _ _ (sym (c .before .before .before .before .next-child .ensures) ∙ ap (childIn _) (c .before .before .child2 .given .1)))
 
 scan-node-enum-told : (t : ℕ) → scan-node-lts.Need-enum-told (calls t) (scan-node-at t) scan-node.Post scan-node-Inv-loop scan-node-μ-loop
 scan-node-enum-told t c = search needs
