@@ -1,11 +1,13 @@
 -- A walk's steps, as the code makes them: children are read again in place, from the last to the first.
 use mathlib.Core.List.{List, [], _∷_}
 use Prim.Native.Nat.{ℕ, zero, suc}
+use lib.Dec.{ltb}
 use Rattle.fields.specs.Choice.{choose}
-use Rattle.blocks.specs.Reads.{Reads, done, Outcome, given, refused, run, noBlocks, _>>=_}
+use Rattle.blocks.specs.Reads.{Reads, done, refuse, Outcome, given, refused, run, noBlocks, _>>=_, need}
 use Rattle.blocks.specs.declared.Address.{Address}
 use Rattle.blocks.specs.declared.Container.{Container}
-use Rattle.nodes.specs.Node.{entry, pointer, isLeaf, keyCount}
+use Rattle.blocks.specs.declared.Refusal.the-variants.{TooManyNodes}
+use Rattle.nodes.specs.Node.{entry, pointer, isLeaf, keyCount, readNode}
 use Rattle.nodes.specs.Walk.{Walked, childrenFrom, each, walkBelow}
 use Rattle.nodes.specs.declared.Description.{Description}
 use Rattle.trees.specs.declared.Way.{Way}
@@ -26,6 +28,11 @@ pointerAt d b i = numberIn (run noBlocks (pointerOf d b i))
 unfoldable pub pointersDown : Description → List ℕ → ℕ → List ℕ
 pointersDown d b zero = []
 pointersDown d b (suc n) = pointerAt d b n ∷ pointersDown d b n
+
+-- a node whose turn has come, where so many levels and nodes may still come: "22 .. (added; given before that node is read)"
+unfoldable pub nextNode : Container → ℕ → ℕ → ℕ → Reads (List ℕ)
+nextNode c zero left a = refuse TooManyNodes
+nextNode c (suc levels) left a = need (ltb 0 left) TooManyNodes >>= λ _. readNode c (record { 0 = a })
 
 module _ {S : Type 0} (visit : S → Address → Reads S) (c : Container) (d : Description) where
   -- what follows once a node is visited, where so many levels may lie below it

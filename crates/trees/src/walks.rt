@@ -13,12 +13,15 @@ use nodes::Description;
 use report::OverlapLog;
 use report::Step;
 ghost use mathlib.Core.Path.{_≡_};
-ghost use Rattle.blocks.specs.Reads.{run, given};
+ghost use Prim.Native.Nat.{_<_};
+ghost use Rattle.blocks.specs.Reads.{run};
 ghost use Rattle.blocks.specs.Blocks.{blockOf};
-ghost use Rattle.nodes.specs.Node.{readNode};
+ghost use Rattle.blocks.specs.Answers.{seenAs};
 ghost use Rattle.nodes.specs.Walk.{walkBelow, walk as walkOf};
 ghost use Rattle.claims.specs.Claims.{claimNode};
 ghost use Rattle.claims.specs.Answers.{owned};
+ghost use Rattle.trees.specs.Walks.{nextNode};
+ghost use Rattle.trees.specs.Read.{NodeRead};
 ghost use Rattle.trees.specs.Answers.{WayOf, Enters, Walks, WalksWhole, walked};
 
 // The root is the first level.
@@ -45,8 +48,8 @@ fn refused(r: Refusal, log: OverlapLog) -> Entered
     Entered { way, log }
 }
 
-// The node at a claimed, once it was read.
-fn claim_entered(
+// The node at a, which was read, is claimed.
+fn enter(
     image: &[u8],
     map: &mut [u8],
     container: Container,
@@ -54,7 +57,8 @@ fn claim_entered(
     a: u64,
     log: OverlapLog,
 ) -> Entered
-    ensures { λ r. ⌜ (run (blockOf (now (image .entry)) (container .size)) (readNode container (record { 0 = a })) ≡ given (blockOf (now (image .entry)) (container .size) a) → Enters (now (image .entry)) container d a r (now (map .entry)) (now (map .exit)) log) ⌝ }
+    requires { ⌜ NodeRead (blockOf (now image) (container .size)) container a ⌝ }
+    ensures { λ r. ⌜ Enters (now (image .entry)) container d a r (now (map .entry)) (now (map .exit)) log ⌝ }
 {
     let claimed = claims::claim_node(map, container, Address(a), log);
     let step = claimed.step;
@@ -69,22 +73,17 @@ fn claim_entered(
     }
 }
 
-// The node at a is read, and it is claimed.
-fn enter(
-    image: &[u8],
-    map: &mut [u8],
-    container: Container,
-    d: Description,
-    a: u64,
-    log: OverlapLog,
-) -> Entered
-    ensures { λ r. ⌜ Enters (now (image .entry)) container d a r (now (map .entry)) (now (map .exit)) log ⌝ }
+// The node at a is read where one more level and one more node may come: refusal 22 comes before.
+fn read_next(image: &[u8], container: Container, a: u64, levels: u64, left: u64) -> Seen
+    ensures { λ r. ⌜ seenAs (blockOf (now (image .entry)) (container .size) a) r ≡ run (blockOf (now (image .entry)) (container .size)) (nextNode container levels left a) ⌝ }
 {
-    let seen = nodes::node::read_node(image, container, Address(a));
-    match seen {
-        Seen::Refused(r) => refused(r, log),
-        Seen::There => claim_entered(image, map, container, d, a, log),
+    if levels == 0 {
+        return Seen::Refused(Refusal::TooManyNodes);
     }
+    if left == 0 {
+        return Seen::Refused(Refusal::TooManyNodes);
+    }
+    nodes::node::read_node(image, container, Address(a))
 }
 
 fn stopped(r: Refusal, left: u64, log: OverlapLog) -> Walked
@@ -101,7 +100,7 @@ fn done(left: u64, log: OverlapLog) -> Walked
     Walked { step, left, log }
 }
 
-// The node at a and all below it, of at most so many levels; left nodes may still come.
+// The node at a, which was read, and all below it, of at most so many levels; left nodes may still come, this one among them.
 fn walk_below(
     image: &[u8],
     map: &mut [u8],
@@ -112,14 +111,9 @@ fn walk_below(
     left: u64,
     log: OverlapLog,
 ) -> Walked
+    requires { ⌜ (0 < levels) × (0 < left) × NodeRead (blockOf (now image) (container .size)) container a ⌝ }
     ensures { λ r. ⌜ Walks (now (image .entry)) container r (now (map .entry)) (now (map .exit)) (walkBelow (claimNode container) container d levels a (walked (now (map .entry)) left log)) ⌝ }
 {
-    if levels == 0 {
-        return stopped(Refusal::TooManyNodes, left, log);
-    }
-    if left == 0 {
-        return stopped(Refusal::TooManyNodes, left, log);
-    }
     let entered = enter(image, map, container, d, a, log);
     let way = entered.way;
     let mut found = entered.log;
@@ -128,18 +122,25 @@ fn walk_below(
         Way::Leaf => done(left - 1, found),
         Way::Index => {
             let node = blocks::block(image, container.size, a);
+            let levels = levels - 1;
             let mut left = left - 1;
             let mut k = nodes::node::key_count(node);
             while 0 < k {
                 k -= 1;
                 let child = pointer_at(node, d, k);
-                let below = walk_below(image, map, container, d, child, levels - 1, left, found);
-                let step = below.step;
-                match step {
-                    Step::Refused(_) => return below,
-                    Step::Done => {
-                        left = below.left;
-                        found = below.log;
+                let seen = read_next(image, container, child, levels, left);
+                match seen {
+                    Seen::Refused(r) => return stopped(r, left, found),
+                    Seen::There => {
+                        let w = walk_below(image, map, container, d, child, levels, left, found);
+                        let step = w.step;
+                        match step {
+                            Step::Refused(_) => return w,
+                            Step::Done => {
+                                left = w.left;
+                                found = w.log;
+                            }
+                        }
                     }
                 }
             }
@@ -148,7 +149,7 @@ fn walk_below(
     }
 }
 
-// All nodes of the tree whose root is at an address, each claimed; no more of them than the container has blocks.
+// All nodes of the tree whose root is at an address and was read, each claimed; no more of them than the container has blocks.
 pub fn walk(
     image: &[u8],
     map: &mut [u8],
@@ -157,6 +158,7 @@ pub fn walk(
     root: Address,
     log: OverlapLog,
 ) -> Claimed
+    requires { ⌜ NodeRead (blockOf (now image) (container .size)) container (root .0) ⌝ }
     ensures { λ r. ⌜ WalksWhole (now (image .entry)) container r (now (map .entry)) (now (map .exit)) (walkOf (claimNode container) container d root (owned (now (map .entry)) log)) ⌝ }
 {
     let done = walk_below(

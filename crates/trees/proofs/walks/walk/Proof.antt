@@ -1,10 +1,11 @@
-use Rattle.trees.proofs.WalkLaws.{walks-whole}
+use Rattle.trees.proofs.WalkLaws.{read-some, walks-whole}
+use native.Mathlib.Omega.{arith}
 use borrow.Author.Needs.{needs}
 use Rattle.trees.proofs.walks.walk.Statement.{statement}
 use Rattle.trees.proofs.walks.walk.Tie as tie
 
 walk-below-requires : tie.Need-walk-below-requires
-walk-below-requires c κs = search needs
+walk-below-requires c κs = (omega arith, read-some _ _ _ (c .before .before .before .pre), c .before .before .before .pre)
 
 same-length : tie.Need-same-length
 same-length c = search needs
