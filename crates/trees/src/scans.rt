@@ -57,7 +57,7 @@ fn audit_entry(
     Visited { step, figures }
 }
 
-// A mapping is claimed, and so are the blocks of an entry of the main queue; the audit's figures are left as they are.
+// The blocks of an entry of the main queue are claimed; the audit's figures are left as they are.
 fn claim_entry(
     image: &[u8],
     map: &mut [u8],
@@ -79,6 +79,7 @@ fn claim_entry(
     Visited { step, figures }
 }
 
+// The same for a mapping of the object map.
 fn claim_mapping(
     image: &[u8],
     map: &mut [u8],
