@@ -4,7 +4,7 @@
 //! that keeps its message, no human-readable size, and `println!` as a macro that keeps the line.
 #![allow(dead_code, unused_imports, clippy::all)]
 
-use std::cell::RefCell;
+use std::cell::{Cell, RefCell};
 use std::collections::HashSet;
 
 macro_rules! println {
@@ -31,6 +31,12 @@ pub struct Cells {
 
 thread_local! {
     static CAUGHT: RefCell<Caught> = RefCell::default();
+    static CELLS_WANTED: Cell<bool> = const { Cell::new(true) };
+}
+
+/// Whether this thread's runs hand out their cells, as they do at first: a run that is timed shouldn't copy them.
+pub fn want_cells(wanted: bool) {
+    CELLS_WANTED.set(wanted);
 }
 
 /// What was caught since the last call.
@@ -43,6 +49,9 @@ fn keep_line(line: String) {
 }
 
 fn hand_out(marked: &[bool], owner: &[u8], kinds: &[&'static str], pool_used: &HashSet<u64>) {
+    if !CELLS_WANTED.get() {
+        return;
+    }
     let cells =
         Cells { marked: marked.to_vec(), owner: owner.to_vec(), kinds: kinds.to_vec(), pool_used: pool_used.clone() };
     CAUGHT.with_borrow_mut(|c| c.cells = Some(cells));
