@@ -1,101 +1,138 @@
-// The proved `verify` beside the original's: the same answers first, then their times.
-use std::hint::black_box;
-use std::time::Instant;
+//! The proved library beside the original: the same answers first, then their times.
 
-include!(concat!(env!("OUT_DIR"), "/original.rs"));
+use std::fs::File;
+use std::path::Path;
+use std::process::ExitCode;
 
-extern "C" {
-    fn fletcher_verify(object: *const u8, length: usize) -> bool;
-}
+// Offsets, checksum, nodes, random numbers and the answer's form are those of compare/.
+#[allow(dead_code)]
+#[path = "../../compare/src/answer.rs"]
+mod answer;
+#[allow(dead_code)]
+#[path = "../../compare/src/fields.rs"]
+mod fields;
+#[allow(dead_code)]
+#[path = "../../compare/src/fletcher.rs"]
+mod fletcher;
+#[allow(dead_code)]
+#[path = "../../compare/src/nodes.rs"]
+mod nodes;
+#[allow(dead_code)]
+#[path = "../../compare/src/rng.rs"]
+mod rng;
 
-fn proved(object: &[u8]) -> bool {
-    // The proved function reads a slice: a pointer and a length.
-    unsafe { fletcher_verify(object.as_ptr(), object.len()) }
-}
+mod agreement;
+mod checksum;
+mod clock;
+mod container;
+mod memory;
+mod mkapfs;
+mod passes;
+mod scratch;
+mod synthetic;
+mod table;
 
-struct Random(u64);
+use container::{Measured, Subject};
+use memory::{Mapping, Pages};
+use scratch::Scratch;
+use synthetic::Form;
 
-impl Random {
-    fn next(&mut self) -> u64 {
-        self.0 ^= self.0 << 13;
-        self.0 ^= self.0 >> 7;
-        self.0 ^= self.0 << 17;
-        self.0
-    }
+const USAGE: &str = "usage: bench [checksum] [mkapfs] [dense]    measure, all three if none is named
+       bench write GIBIBYTES FILE               only write a dense container
+       bench pass FILE RUNS                     only run the proved pass, for a profiler";
 
-    // An object of random bytes, with its checksum where it has room for one.
-    fn object(&mut self, length: usize) -> Vec<u8> {
-        let mut object: Vec<u8> = (0..length).map(|_| self.next() as u8).collect();
-        if length >= 8 {
-            let sum = original::compute(&object);
-            object[..8].copy_from_slice(&sum.to_le_bytes());
+/// Blocks of 4,096 bytes in a gibibyte.
+const GIBIBYTE: u64 = 1 << 18;
+/// The container of 2 TiB, and the largest whose pool's bitmap every mkapfs writes whole.
+const MKAPFS_BLOCKS: [u64; 2] = [2048 * GIBIBYTE, 10_836 << 15];
+const MKAPFS_BAR: f64 = 6.0;
+const MKAPFS_RUNS: usize = 5;
+/// Dense containers; the last is the one with a bar.
+const DENSE_GIBIBYTES: [u64; 3] = [16, 32, 64];
+const DENSE_BAR: f64 = 4.0;
+const DENSE_RUNS: usize = 15;
+
+fn main() -> ExitCode {
+    let arguments: Vec<String> = std::env::args().skip(1).collect();
+    let arguments: Vec<&str> = arguments.iter().map(String::as_str).collect();
+    let ended = match arguments[..] {
+        ["write", gibibytes, file] => write(gibibytes, file),
+        ["pass", file, runs] => pass(file, runs),
+        ref parts if parts.iter().all(|part| ["checksum", "mkapfs", "dense"].contains(part)) => measure(parts),
+        _ => Err(USAGE.into()),
+    };
+    match ended {
+        Ok(()) => ExitCode::SUCCESS,
+        Err(message) => {
+            eprintln!("{message}");
+            ExitCode::FAILURE
         }
-        object
     }
 }
 
-// Both must agree on whole objects, on objects with one byte damaged, and on every short length.
-fn compare(random: &mut Random) {
-    let (mut whole, mut damaged) = (0, 0);
-    let lengths: Vec<usize> = (0..600)
-        .chain([4096, 4100, 4104, 8192, 8199, 65536, 1 << 20])
-        .collect();
-    for &length in lengths.iter().cycle().take(4 * lengths.len()) {
-        let mut object = random.object(length);
-        for _ in 0..2 {
-            let answer = proved(&object);
-            assert_eq!(answer, original::verify(&object), "length {length}");
-            if answer {
-                whole += 1;
-            } else {
-                damaged += 1;
-            }
-            if length > 0 {
-                let at = random.next() as usize % length;
-                object[at] ^= 1 + (random.next() % 255) as u8;
-            }
+fn measure(parts: &[&str]) -> Result<(), String> {
+    let wanted = |part| parts.is_empty() || parts.contains(&part);
+    let mut measured = Measured::default();
+    if wanted("checksum") {
+        measured.times.extend(checksum::rows()?);
+    }
+    if wanted("mkapfs") {
+        real(&mut measured)?;
+    }
+    if wanted("dense") {
+        dense(&mut measured)?;
+    }
+    table::print_times(&measured.times);
+    table::print_memory(&measured.memory);
+    Ok(())
+}
+
+fn real(measured: &mut Measured) -> Result<(), String> {
+    let Some(program) = mkapfs::program() else {
+        println!("mkapfs is not installed (Debian: apt-get install apfsprogs): its containers are left out");
+        return Ok(());
+    };
+    for (blocks, bar) in MKAPFS_BLOCKS.into_iter().zip([Some(MKAPFS_BAR), None]) {
+        let (scratch, completed) = mkapfs::make(&program, blocks).map_err(|e| e.to_string())?;
+        let what = format!("mkapfs, {:.2} TiB", blocks as f64 / (1024 * GIBIBYTE) as f64);
+        if completed {
+            println!("{what}: the pool's bitmap was a block short, and is completed");
         }
+        measured.add(Subject { what, runs: MKAPFS_RUNS, bar }, &scratch.file)?;
     }
-    let full = vec![255; 1 << 20];
-    assert_eq!(proved(&full), original::verify(&full), "all bytes 255");
-    println!("same answers: {whole} objects verify, {damaged} do not");
+    Ok(())
 }
 
-// Seconds for one call: the best of many short runs, the two taken in turns.
-fn best(object: &[u8]) -> (f64, f64) {
-    let calls = ((1 << 16) / object.len()).max(1);
-    let mut least = (f64::MAX, f64::MAX);
-    for _ in 0..20_000 {
-        least.0 = least.0.min(time(proved, object, calls));
-        least.1 = least.1.min(time(original::verify, object, calls));
+fn dense(measured: &mut Measured) -> Result<(), String> {
+    for gibibytes in DENSE_GIBIBYTES {
+        let form = dense_form(gibibytes);
+        let scratch = Scratch::new(&format!("dense-{gibibytes}"), 0).map_err(|e| e.to_string())?;
+        synthetic::write(&scratch.file, form).map_err(|e| e.to_string())?;
+        let bar = (DENSE_GIBIBYTES.last() == Some(&gibibytes)).then_some(DENSE_BAR);
+        let what = format!("dense, {gibibytes} GiB, {} queued", 2 * form.queued);
+        measured.add(Subject { what, runs: DENSE_RUNS, bar }, &scratch.file)?;
     }
-    least
+    Ok(())
 }
 
-fn time(verify: fn(&[u8]) -> bool, object: &[u8], calls: usize) -> f64 {
-    let start = Instant::now();
-    for _ in 0..calls {
-        assert!(black_box(verify)(black_box(object)));
-    }
-    start.elapsed().as_secs_f64() / calls as f64
+/// The queues grow with the container, to 100,000 entries each at 64 GiB.
+fn dense_form(gibibytes: u64) -> Form {
+    Form { blocks: gibibytes * GIBIBYTE, queued: gibibytes * 100_000 / 64, mapped: 20_000, seed: 1 }
 }
 
-fn main() {
-    let mut random = Random(0x2545_f491_4f6c_dd1d);
-    compare(&mut random);
-    println!(
-        "{:>9}  {:>14}  {:>14}  {:>6}",
-        "bytes", "proved", "original", "ratio"
-    );
-    for length in [4096, 65536, 1 << 20] {
-        let object = random.object(length);
-        let (ours, theirs) = best(&object);
-        let rate = |seconds: f64| format!("{:.2} GB/s", length as f64 / seconds / 1e9);
-        println!(
-            "{length:>9}  {:>14}  {:>14}  {:>6.2}",
-            rate(ours),
-            rate(theirs),
-            theirs / ours
-        );
+fn write(gibibytes: &str, file: &str) -> Result<(), String> {
+    let gibibytes = gibibytes.parse().map_err(|_| USAGE)?;
+    let file = File::create_new(Path::new(file)).map_err(|e| format!("{file}: {e}"))?;
+    synthetic::write(&file, dense_form(gibibytes)).map_err(|e| e.to_string())
+}
+
+fn pass(file: &str, runs: &str) -> Result<(), String> {
+    let runs: usize = runs.parse().map_err(|_| USAGE)?;
+    let image = File::open(file).and_then(|file| Mapping::of_file(&file)).map_err(|e| format!("{file}: {e}"))?;
+    let blocks = image.bytes().len() / 4096;
+    for _ in 0..runs {
+        let seconds = passes::time_proved(image.bytes(), blocks, Pages::Huge).map_err(|e| e.to_string())?;
+        println!("{seconds:.4} s");
     }
+    Ok(())
 }

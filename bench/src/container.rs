@@ -1,0 +1,65 @@
+//! One container measured: the same answers first, then the best times, the passes taken in turns.
+
+use std::fs::File;
+use std::sync::Arc;
+
+use crate::agreement::agree;
+use crate::memory::{Mapping, Pages};
+use crate::passes::{original, proved, time_original, time_proved};
+use crate::table::{Memory, Row};
+
+/// All containers here have blocks of this size.
+const BLOCK: usize = 4096;
+
+pub struct Subject {
+    pub what: String,
+    pub runs: usize,
+    pub bar: Option<f64>,
+}
+
+/// What was measured of all containers.
+#[derive(Default)]
+pub struct Measured {
+    pub times: Vec<Row>,
+    pub memory: Vec<Memory>,
+}
+
+impl Measured {
+    pub fn add(&mut self, subject: Subject, file: &File) -> Result<(), String> {
+        let image = Arc::new(Mapping::of_file(file).map_err(|e| e.to_string())?);
+        let blocks = image.bytes().len() / BLOCK;
+        self.answers(&subject, &image, blocks).map_err(|what| format!("{}: {what}", subject.what))?;
+        println!("{}: the same 78 figures and {blocks} bytes of the map", subject.what);
+        self.best(subject, &image, blocks)
+    }
+
+    fn answers(&mut self, subject: &Subject, image: &Arc<Mapping>, blocks: usize) -> Result<(), String> {
+        let (caught, ended) = original(image);
+        for pages in [Pages::Huge, Pages::Plain] {
+            let pass = proved(image.bytes(), blocks, pages).map_err(|e| e.to_string())?;
+            agree(&pass.figures, pass.map.bytes(), &caught, &ended)?;
+            self.memory.push(Memory {
+                what: subject.what.clone(),
+                pages,
+                noted: pass.map.bytes().iter().filter(|byte| **byte != 0).count() as u64,
+                held: pass.map.noted_pages(pages) * pages.bytes() as u64,
+                resident: pass.resident,
+            });
+        }
+        Ok(())
+    }
+
+    fn best(&mut self, subject: Subject, image: &Arc<Mapping>, blocks: usize) -> Result<(), String> {
+        let [mut huge, mut plain, mut original] = [f64::MAX; 3];
+        let time = |pages| time_proved(image.bytes(), blocks, pages).map_err(|e| e.to_string());
+        for _ in 0..subject.runs {
+            huge = huge.min(time(Pages::Huge)?);
+            plain = plain.min(time(Pages::Plain)?);
+            original = original.min(time_original(image));
+        }
+        for (pages, proved, bar) in [(Pages::Huge, huge, subject.bar), (Pages::Plain, plain, None)] {
+            self.times.push(Row { what: subject.what.clone(), pages: Some(pages), proved, original, bar });
+        }
+        Ok(())
+    }
+}

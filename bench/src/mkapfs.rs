@@ -1,0 +1,76 @@
+//! Empty containers by mkapfs of Debian's apfsprogs.
+
+use std::fs::File;
+use std::io;
+use std::os::unix::fs::FileExt;
+use std::path::{Path, PathBuf};
+use std::process::{Command, Stdio};
+
+use crate::fields::{checkpoint_map, manager as m, mapping, put, superblock as s};
+use crate::fletcher::seal;
+use crate::scratch::Scratch;
+
+/// mkapfs chooses others by chance.
+const UUID: &str = "6c7a1d0e-0000-4000-8000-000000000001";
+const BLOCK: usize = 4096;
+const BITMAP_BITS: u64 = 8 * BLOCK as u64;
+/// mkapfs keeps the list of bitmap indices in 8 bytes.
+const INDEX_ROOM: u64 = 4;
+
+/// It usually stands where only root's path looks.
+pub fn program() -> Option<PathBuf> {
+    let starts = |program: &PathBuf| {
+        Command::new(program).arg("-v").stdout(Stdio::null()).stderr(Stdio::null()).status().is_ok()
+    };
+    ["mkapfs", "/usr/sbin/mkapfs", "/sbin/mkapfs"].into_iter().map(PathBuf::from).find(starts)
+}
+
+/// A container of so many blocks, and whether its pool's bitmap had to be completed.
+pub fn make(program: &Path, blocks: u64) -> io::Result<(Scratch, bool)> {
+    let scratch = Scratch::new(&format!("mkapfs-{blocks}"), blocks * BLOCK as u64)?;
+    let status = Command::new(program).args(["-U", UUID, "-u", UUID]).arg(&scratch.path).status()?;
+    if !status.success() {
+        return Err(io::Error::other(format!("mkapfs ended with {status}")));
+    }
+    let completed = complete_pool_bitmap(&scratch.file)?;
+    Ok((scratch, completed))
+}
+
+/// Some versions give every pool one bitmap block, which is too small from 32,769 pool blocks on: the original panics
+/// there, and the proved pass refuses. The manager is told of as many as the pool needs; the others' bits are all 0.
+fn complete_pool_bitmap(file: &File) -> io::Result<bool> {
+    let address = manager(file)?;
+    let mut block = read(file, address)?;
+    let (told, needed) = (m::BITMAP_SLOTS.of(&block), m::POOL_COUNT.of(&block).div_ceil(BITMAP_BITS));
+    if needed <= told {
+        return Ok(false);
+    }
+    if needed > INDEX_ROOM.min(m::BITMAP_RING.of(&block)) {
+        return Err(io::Error::other("a pool too large for the list of its bitmap blocks"));
+    }
+    m::BITMAP_SLOTS.set(&mut block, needed);
+    let list = m::INDEX_OFFSET.of(&block) as usize;
+    for i in told..needed {
+        put(&mut block, list + i as usize * m::INDEX_WIDTH, m::INDEX_WIDTH, i);
+    }
+    seal(&mut block);
+    file.write_all_at(&block, address * BLOCK as u64)?;
+    Ok(true)
+}
+
+/// Where the manager stands, by the one checkpoint of a new container.
+fn manager(file: &File) -> io::Result<u64> {
+    let superblock = read(file, 0)?;
+    let map = read(file, s::DESCRIPTOR_BASE.of(&superblock) + s::DESCRIPTOR_INDEX.of(&superblock))?;
+    let entries = (0..checkpoint_map::COUNT.of(&map) as usize)
+        .map(|i| &map[checkpoint_map::ENTRIES + i * checkpoint_map::ENTRY..][..checkpoint_map::ENTRY]);
+    let id = s::MANAGER_ID.of(&superblock);
+    let entry = entries.into_iter().find(|entry| mapping::ID.of(entry) == id);
+    entry.map(|entry| mapping::ADDRESS.of(entry)).ok_or_else(|| io::Error::other("a container without a manager"))
+}
+
+fn read(file: &File, address: u64) -> io::Result<Vec<u8>> {
+    let mut block = vec![0; BLOCK];
+    file.read_exact_at(&mut block, address * BLOCK as u64)?;
+    Ok(block)
+}

@@ -1,0 +1,115 @@
+//! A synthetic container in a sparse file, from a seed alone: dense bitmaps, an object map of three levels, long queues.
+//! It is consistent: whatever is claimed is marked, and nothing is claimed twice.
+
+mod bitmaps;
+mod checkpoint;
+mod manager;
+mod object_map;
+mod queues;
+mod trees;
+
+use std::fs::File;
+use std::io;
+use std::os::unix::fs::FileExt;
+
+use crate::rng::Rng;
+use bitmaps::{Bits, Chunks};
+use queues::{MAIN_SLOT, POOL_SLOT};
+
+const BLOCK: usize = 4096;
+const XID: u64 = 1000;
+const MANAGER_ID: u64 = 0x400;
+const QUEUE_ID: u64 = 0x1_0000;
+/// Stored beside the kind in a type: an ephemeral and a physical object.
+const EPHEMERAL: u64 = 0x8000_0000;
+const PHYSICAL: u64 = 0x4000_0000;
+
+/// What a container is to hold.
+#[derive(Clone, Copy)]
+pub struct Form {
+    pub blocks: u64,
+    /// Entries of each of the two queues.
+    pub queued: u64,
+    /// Mappings of the object map.
+    pub mapped: u64,
+    pub seed: u64,
+}
+
+impl Form {
+    /// Nodes of each queue's tree.
+    fn queue_nodes(&self) -> u64 {
+        trees::nodes(self.queued)
+    }
+
+    fn pool_blocks(&self) -> u64 {
+        Chunks::own_blocks(self.blocks) + POOL_SLOT * self.queued
+    }
+}
+
+/// Where the parts stand, one after the other from block 1 on.
+struct Places {
+    descriptors: u64,
+    data: u64,
+    bitmap_ring: u64,
+    pool: u64,
+    object_map: u64,
+    nodes: u64,
+    end: u64,
+}
+
+impl Places {
+    /// The rings are twice as long as one checkpoint needs them.
+    fn of(form: &Form) -> Self {
+        let descriptors = 1;
+        let data = descriptors + 2 * (checkpoint::map_blocks(form) + 1);
+        let bitmap_ring = data + 2 * (1 + 2 * form.queue_nodes());
+        let pool = bitmap_ring + 2 * Bits::blocks(form.pool_blocks());
+        let object_map = pool + form.pool_blocks();
+        let nodes = object_map + 1;
+        let end = nodes + trees::nodes(form.mapped);
+        Places { descriptors, data, bitmap_ring, pool, object_map, nodes, end }
+    }
+}
+
+/// A container under way.
+struct Build<'a> {
+    file: &'a File,
+    form: Form,
+    places: Places,
+    rng: Rng,
+}
+
+pub fn write(file: &File, form: Form) -> io::Result<()> {
+    file.set_len(form.blocks * BLOCK as u64)?;
+    let mut build = Build { file, form, places: Places::of(&form), rng: Rng::new(form.seed) };
+    let mut chunks = Chunks::choose(form.blocks, &mut build.rng);
+    let mut slots = chunks.dense_slots(build.places.end, MAIN_SLOT);
+    if (slots.len() as u64) < form.queued + form.mapped {
+        return Err(io::Error::other("the container is too small for its queues and mappings"));
+    }
+    build.rng.shuffle(&mut slots);
+    let (queued, rest) = slots.split_at(form.queued as usize);
+    chunks.bits.set(0, build.places.end);
+    build.object_map(&rest[..form.mapped as usize], &mut chunks.bits)?;
+    build.main_queue(queued, &mut chunks.bits)?;
+    build.pool()?;
+    build.chunks(&chunks)?;
+    build.manager(chunks.free())?;
+    build.checkpoint()
+}
+
+impl Build<'_> {
+    fn put(&self, address: u64, bytes: &[u8]) -> io::Result<()> {
+        self.file.write_all_at(bytes, address * BLOCK as u64)
+    }
+
+    /// Chunk bitmaps from the pool's start on, and behind them the blocks that list them.
+    fn chunks(&self, chunks: &Chunks) -> io::Result<()> {
+        let first = self.places.pool;
+        let infos = chunks.info_blocks(first);
+        for (address, block) in (first..).zip(chunks.bitmaps().chain(infos.iter().map(Vec::as_slice))) {
+            self.put(address, block)?;
+        }
+        Ok(())
+    }
+}
