@@ -9,7 +9,7 @@ use crate::passes::{original, proved, time_original, time_proved};
 use crate::table::{Memory, Row};
 
 /// All containers here have blocks of this size.
-const BLOCK: usize = 4096;
+pub const BLOCK: usize = 4096;
 
 pub struct Subject {
     pub what: String,
@@ -34,9 +34,11 @@ impl Measured {
     }
 
     fn answers(&mut self, subject: &Subject, image: &Arc<Mapping>, blocks: usize) -> Result<(), String> {
+        // Before the original: the stack that it leaves in memory would hide what a proved pass takes.
+        let pass = |pages| proved(image.bytes(), blocks, pages).map_err(|e| e.to_string());
+        let passes = [(Pages::Huge, pass(Pages::Huge)?), (Pages::Plain, pass(Pages::Plain)?)];
         let (caught, ended) = original(image);
-        for pages in [Pages::Huge, Pages::Plain] {
-            let pass = proved(image.bytes(), blocks, pages).map_err(|e| e.to_string())?;
+        for (pages, pass) in passes {
             agree(&pass.figures, pass.map.bytes(), &caught, &ended)?;
             self.memory.push(Memory {
                 what: subject.what.clone(),

@@ -1,7 +1,6 @@
 //! The proved library beside the original: the same answers first, then their times.
 
 use std::fs::File;
-use std::path::Path;
 use std::process::ExitCode;
 
 // Offsets, checksum, nodes, random numbers and the answer's form are those of compare/.
@@ -32,7 +31,7 @@ mod scratch;
 mod synthetic;
 mod table;
 
-use container::{Measured, Subject};
+use container::{Measured, Subject, BLOCK};
 use memory::{Mapping, Pages};
 use scratch::Scratch;
 use synthetic::Form;
@@ -41,10 +40,10 @@ const USAGE: &str = "usage: bench [checksum] [mkapfs] [dense]    measure, all th
        bench write GIBIBYTES FILE               only write a dense container
        bench pass FILE RUNS                     only run the proved pass, for a profiler";
 
-/// Blocks of 4,096 bytes in a gibibyte.
-const GIBIBYTE: u64 = 1 << 18;
-/// The container of 2 TiB, and the largest whose pool's bitmap every mkapfs writes whole.
-const MKAPFS_BLOCKS: [u64; 2] = [2048 * GIBIBYTE, 10_836 << 15];
+/// Blocks in a gibibyte.
+const GIBIBYTE: u64 = (1 << 30) / BLOCK as u64;
+/// The container of 2 TiB, and the largest whose pool's bitmap every mkapfs writes whole: 10,836 chunks.
+const MKAPFS_BLOCKS: [u64; 2] = [2048 * GIBIBYTE, 10_836 * 8 * BLOCK as u64];
 const MKAPFS_BAR: f64 = 6.0;
 const MKAPFS_RUNS: usize = 5;
 /// Dense containers; the last is the one with a bar.
@@ -83,7 +82,9 @@ fn measure(parts: &[&str]) -> Result<(), String> {
         dense(&mut measured)?;
     }
     table::print_times(&measured.times);
-    table::print_memory(&measured.memory);
+    if !measured.memory.is_empty() {
+        table::print_memory(&measured.memory);
+    }
     Ok(())
 }
 
@@ -122,14 +123,14 @@ fn dense_form(gibibytes: u64) -> Form {
 
 fn write(gibibytes: &str, file: &str) -> Result<(), String> {
     let gibibytes = gibibytes.parse().map_err(|_| USAGE)?;
-    let file = File::create_new(Path::new(file)).map_err(|e| format!("{file}: {e}"))?;
+    let file = File::create_new(file).map_err(|e| format!("{file}: {e}"))?;
     synthetic::write(&file, dense_form(gibibytes)).map_err(|e| e.to_string())
 }
 
 fn pass(file: &str, runs: &str) -> Result<(), String> {
     let runs: usize = runs.parse().map_err(|_| USAGE)?;
     let image = File::open(file).and_then(|file| Mapping::of_file(&file)).map_err(|e| format!("{file}: {e}"))?;
-    let blocks = image.bytes().len() / 4096;
+    let blocks = image.bytes().len() / BLOCK;
     for _ in 0..runs {
         let seconds = passes::time_proved(image.bytes(), blocks, Pages::Huge).map_err(|e| e.to_string())?;
         println!("{seconds:.4} s");

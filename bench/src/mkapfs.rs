@@ -6,13 +6,13 @@ use std::os::unix::fs::FileExt;
 use std::path::{Path, PathBuf};
 use std::process::{Command, Stdio};
 
+use crate::container::BLOCK;
 use crate::fields::{checkpoint_map, manager as m, mapping, put, superblock as s};
 use crate::fletcher::seal;
 use crate::scratch::Scratch;
 
 /// mkapfs chooses others by chance.
 const UUID: &str = "6c7a1d0e-0000-4000-8000-000000000001";
-const BLOCK: usize = 4096;
 const BITMAP_BITS: u64 = 8 * BLOCK as u64;
 /// mkapfs keeps the list of bitmap indices in 8 bytes.
 const INDEX_ROOM: u64 = 4;
@@ -62,10 +62,9 @@ fn complete_pool_bitmap(file: &File) -> io::Result<bool> {
 fn manager(file: &File) -> io::Result<u64> {
     let superblock = read(file, 0)?;
     let map = read(file, s::DESCRIPTOR_BASE.of(&superblock) + s::DESCRIPTOR_INDEX.of(&superblock))?;
-    let entries = (0..checkpoint_map::COUNT.of(&map) as usize)
-        .map(|i| &map[checkpoint_map::ENTRIES + i * checkpoint_map::ENTRY..][..checkpoint_map::ENTRY]);
+    let entries = map[checkpoint_map::ENTRIES..].chunks_exact(checkpoint_map::ENTRY);
     let id = s::MANAGER_ID.of(&superblock);
-    let entry = entries.into_iter().find(|entry| mapping::ID.of(entry) == id);
+    let entry = entries.take(checkpoint_map::COUNT.of(&map) as usize).find(|entry| mapping::ID.of(entry) == id);
     entry.map(|entry| mapping::ADDRESS.of(entry)).ok_or_else(|| io::Error::other("a container without a manager"))
 }
 

@@ -12,11 +12,11 @@ use std::fs::File;
 use std::io;
 use std::os::unix::fs::FileExt;
 
+use crate::container::BLOCK;
 use crate::rng::Rng;
 use bitmaps::{Bits, Chunks};
 use queues::{MAIN_SLOT, POOL_SLOT};
 
-const BLOCK: usize = 4096;
 const XID: u64 = 1000;
 const MANAGER_ID: u64 = 0x400;
 const QUEUE_ID: u64 = 0x1_0000;

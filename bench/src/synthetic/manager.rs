@@ -3,12 +3,13 @@
 use std::io;
 
 use super::bitmaps::{Bits, Chunks};
+use super::queues::ring_index;
 use super::{Build, BLOCK, EPHEMERAL, MANAGER_ID, QUEUE_ID, XID};
 use crate::fields::{manager as m, object, put};
 use crate::fletcher::seal;
 
-/// Where its two lists stand; the first has room for as many indices as fit between.
-const INDICES: usize = 344;
+/// Where its two lists stand: pool bitmap indices behind its fields, and chunk-info addresses.
+const INDICES: usize = m::LENGTH;
 const ADDRESSES: usize = 2048;
 
 impl Build<'_> {
@@ -36,7 +37,7 @@ impl Build<'_> {
             (m::INDEX_OFFSET, INDICES as u64),
         ];
         fields.into_iter().for_each(|(field, value)| field.set(&mut block, value));
-        list(&mut block, INDICES, m::INDEX_WIDTH, (0..slots).map(Self::ring_index));
+        list(&mut block, INDICES, m::INDEX_WIDTH, (0..slots).map(ring_index));
         list(&mut block, ADDRESSES, m::ADDRESS_WIDTH, first_info..first_info + infos);
         seal(&mut block);
         self.put(places.data, &block)

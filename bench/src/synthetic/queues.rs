@@ -45,26 +45,28 @@ impl Build<'_> {
         }
         self.queue(runs, 0)?;
         for (i, part) in (0..).zip(marked.bytes.chunks(BLOCK)) {
-            self.put(self.places.bitmap_ring + Self::ring_index(i), part)?;
+            self.put(self.places.bitmap_ring + ring_index(i), part)?;
         }
         Ok(())
-    }
-
-    /// The pool's bitmap stands in every second block of its ring.
-    pub fn ring_index(i: u64) -> u64 {
-        2 * i
     }
 
     /// A queue's tree in the data area, its nodes from place `first` behind the manager on.
     fn queue(&mut self, mut runs: Vec<Run>, first: u64) -> io::Result<()> {
         runs.sort_unstable();
-        let entry =
-            |(xid, start, count): Run| -> Entry { (bytes_of(&[xid, start]), count.map(|count| bytes_of(&[count]))) };
         let entries = runs.into_iter().map(entry).collect();
         let sizes = Sizes { key: queue::KEY, value: queue::VALUE };
         let tree = Tree::of(entries, sizes, object::FREE_QUEUE, QUEUE_ID + first);
         self.tree(&tree, self.places.data + 1 + first)
     }
+}
+
+fn entry((xid, start, count): Run) -> Entry {
+    (bytes_of(&[xid, start]), count.map(|count| bytes_of(&[count])))
+}
+
+/// The pool's bitmap stands in every second block of its ring.
+pub fn ring_index(i: u64) -> u64 {
+    2 * i
 }
 
 fn run(start: u64, rng: &mut Rng) -> Run {
