@@ -72,6 +72,7 @@ fn main() -> ExitCode {
 fn measure(parts: &[&str]) -> Result<(), String> {
     let wanted = |part| parts.is_empty() || parts.contains(&part);
     let mut measured = Measured::default();
+    println!("huge pages of the system: {}", memory::huge_pages());
     if wanted("checksum") {
         measured.times.extend(checksum::rows()?);
     }

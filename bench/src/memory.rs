@@ -116,6 +116,12 @@ impl Drop for Mapping {
     }
 }
 
+/// Whether the system gives huge pages: always, where asked, or never. The original doesn't ask.
+pub fn huge_pages() -> String {
+    let setting = std::fs::read_to_string("/sys/kernel/mm/transparent_hugepage/enabled");
+    setting.map_or("unknown".into(), |setting| setting.trim().to_string())
+}
+
 /// Bytes of this process that stand in memory and belong to no file.
 pub fn resident() -> io::Result<u64> {
     let text = std::fs::read_to_string("/proc/self/smaps_rollup")?;
