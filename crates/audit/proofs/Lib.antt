@@ -1,6 +1,7 @@
--- Laws of the audit's steps, of bitmaps, of lists of chunks, and of queued blocks.
+-- Laws of the audit's steps, of bitmaps, of lists of chunks, of queued blocks, and of those that log nothing.
 pub mod Laws
 pub mod BitmapLaws
 pub mod ChunkLaws
 pub mod QueuedLaws
 pub mod WholeLaws
+pub mod UnloggedLaws

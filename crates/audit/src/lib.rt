@@ -6,6 +6,7 @@ mod bitmap;
 pub mod chunks;
 mod problems;
 pub mod queued;
+pub mod unlogged;
 mod whole;
 
 // What the audit of the bitmaps has counted.

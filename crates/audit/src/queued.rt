@@ -87,7 +87,7 @@ fn audit_run(
 }
 
 // Whether the container has all blocks of a run, whose end could wrap.
-fn has_run(container: Container, run: Run) -> bool
+pub(crate) fn has_run(container: Container, run: Run) -> bool
     ensures { λ r. ⌜ r ≡ leb (run .start + run .count) (container .count) ⌝ }
 {
     if container.count < run.start {

@@ -1,0 +1,60 @@
+use Rattle.audit.proofs.UnloggedLaws.{run-fits, not-made, entry-made}
+use Rattle.queue.specs.Answers.{ranAs}
+use borrow.Author.Tests.{not-false}
+use mathlib.Core.Path.{sym, ap, _∙_}
+use borrow.Author.Needs.{needs}
+use Rattle.audit.proofs.unlogged.audit_unlogged.Statement.{statement}
+use Rattle.audit.proofs.unlogged.audit_unlogged.Tie as tie
+
+run-of-requires : tie.Need-run-of-requires
+run-of-requires c κs = search needs
+
+enum-told : tie.Need-enum-told
+enum-told c = search needs
+
+enum-known-ran : tie.Need-enum-known-ran
+enum-known-ran c = search needs
+
+has-run-requires : tie.Need-has-run-requires
+has-run-requires c κs = search needs
+
+returns : tie.Need-returns
+returns c = not-made _ _ _
+
+all-unused-requires : tie.Need-all-unused-requires
+all-unused-requires c κs = run-fits _ _ (sym (c .before .before .has-run .ensures) ∙ not-false _ (c .before .if1 .left)) (search needs)
+
+same-length : tie.Need-same-length
+same-length c = search needs
+
+returns-2 : tie.Need-returns-2
+returns-2 c = not-made _ _ _
+
+use-run-requires : tie.Need-use-run-requires
+use-run-requires c κs = run-fits _ _ (sym (c .before .before .before .before .before .has-run .ensures) ∙ not-false _ (c .before .before .before .before .if1 .left)) (search needs)
+
+returns-3 : tie.Need-returns-3
+returns-3 c = not-made _ _ _
+
+same-length-2 : tie.Need-same-length-2
+same-length-2 c = search needs
+
+returns-4 : tie.Need-returns-4
+returns-4 c = entry-made _ _ _ _ _ _ _ (sym (c .before .before .before .before .before .before .before .before .before .before .before .before .run-of .ensures _) ∙ ap ranAs (c .before .before .before .before .before .before .before .before .before .before .ran .given .1)) (sym (c .before .before .before .before .before .before .before .before .has-run .ensures) ∙ not-false _ (c .before .before .before .before .before .before .before .if1 .left)) (sym (c .before .before .before .before .before .all-unused .ensures) ∙ not-false _ (c .before .before .before .before .if2 .left)) (c .before .before .use-run .ensures)
+
+pub audit-unlogged-spec : {M : Type 1} → statement M
+audit-unlogged-spec =
+    tie.close
+    (tie.spec
+    run-of-requires
+    enum-told
+    enum-known-ran
+    has-run-requires
+    returns
+    all-unused-requires
+    same-length
+    returns-2
+    use-run-requires
+    returns-3
+    same-length-2
+    returns-4)
