@@ -29,7 +29,7 @@ use Rattle.report.specs.declared.Step.the-variants.{Done, Refused}
 use Rattle.totals.specs.Totals.{unowned}
 use Rattle.queue.specs.Answers.{placesIn}
 use Rattle.claims.specs.Claims.{volumeSuperblock, claimBlock, claimFrom, claim, claimMapped, claimMapping}
-use Rattle.claims.specs.Answers.{owned, ClaimedAs, mappedAddress}
+use Rattle.claims.specs.Answers.{owned, ClaimedAs, OwnedTo, mappedAddress}
 use Rattle.claims.specs.declared.Claimed.{Claimed}
 
 -- a claim that left the map alone
@@ -105,6 +105,35 @@ module _ (count kind end : ℕ) (before : List ℕ) (whole : Reads (Marked Overl
 
     pub left-more : r .step ≡ Done → Left count kind end before whole after (r .log) (a + 1)
     left-more e = record { kept = both-kept; rest = λ f. sym (next f ∙ then-given f _ _ _ (claim-given count r m after _ one f e)) }
+
+-- blocks taken with no overlap, the log kept aside
+pub owned-start : (kind start end : ℕ) (m : List ℕ) → OwnedTo kind start end start m m
+owned-start kind start end m = record { from = omega arith; to = omega arith; kept = λ count h. kept-same count m; rest = λ l f. refl }
+
+module _ (kind start end a : ℕ) (before m : List ℕ) (here : OwnedTo kind start end a before m) where
+  pub owned-left : (count : ℕ) (l : OverlapLog) → end ≤ count → Left count kind end before (claimFrom kind (end - start) start (owned before l)) m l a
+  owned-left count l h = record { kept = here .kept count h; rest = here .rest l }
+
+  module _ (h : a < end) (small : kind < 16) (x : ℕ) (is : x ≡ getD m a 0) (held : ℕ) (owns : held ≡ ownerOf x) (t : Bool) (q : t ≡ (eqb held unowned || eqb held kind)) (e : t ≡ true) (after : List ℕ) (p : after ≡ update (ownedBy (kind % 16)) a m) where
+    next-left : (count : ℕ) (l : OverlapLog) → end ≤ count → Left count kind end before (claimFrom kind (end - start) start (owned before l)) after l (a + 1)
+    next-left count l k = left-more count kind end before _ m l a (owned-left count l k) h _ after (block-taken kind a m l x is held owns t q count e small after p (omega arith)) refl
+
+    pub owned-more : OwnedTo kind start end (a + 1) before after
+    owned-more =
+        record {
+          from = omega arith;
+          to = omega arith;
+          kept = λ count k. kept-then count before m after (here .kept count k) (rw p (kept-update count _ a m (omega arith)));
+          rest = λ l. next-left end l (omega arith) .rest;
+        }
+
+-- what is left of what was left
+pub left-owned : (count kind end : ℕ) (before : List ℕ) (whole : Reads (Marked OverlapLog)) (m after : List ℕ) (l : OverlapLog) (a b : ℕ) → Left count kind end before whole m l a → OwnedTo kind a end b m after → end ≤ count → Left count kind end before whole after l b
+left-owned count kind end before whole m after l a b here o h = record { kept = kept-then count before m after (here .kept) (o .kept count h); rest = λ f. o .rest l f ∙ here .rest f }
+
+-- the claim that is left, for the whole
+pub claimed-owned : (count kind start end a : ℕ) (before m after : List ℕ) (l : OverlapLog) (r : Claimed) → OwnedTo kind start end a before m → ClaimedAs count r m after (claimFrom kind (end - a) a (owned m l)) → end ≤ count → ClaimedAs count r before after (claimFrom kind (end - start) start (owned before l))
+claimed-owned count kind start end a before m after l r o c h = record { outcome = λ f. c .outcome f ∙ o .rest l f; kept = kept-then count before m after (o .kept count h) (c .kept) }
 
 -- a claim is clipped at the block count
 pub claim-clipped : (f : ℕ → List ℕ) (c : Container) (kind start len : ℕ) (s : Marked OverlapLog) (n : ℕ) → run f (sum start len) ≡ given n → (end : ℕ) → end ≡ min n (c .count) → run f (claim c kind start len s) ≡ run f (claimFrom kind (end - start) start s)

@@ -21,7 +21,7 @@ ghost use Rattle.totals.specs.Totals.{unowned};
 ghost use Rattle.queue.specs.Answers.{gotAs, placesIn};
 ghost use Rattle.claims.specs.Claims.{claimBlock, claimFrom, claimNode, claimMapping, claimQueued};
 ghost use Rattle.claims.specs.Claims.{claim as claimOf};
-ghost use Rattle.claims.specs.Answers.{owned, mappedAddress, ClaimedAs};
+ghost use Rattle.claims.specs.Answers.{owned, mappedAddress, ClaimedAs, OwnedTo};
 
 pub mod unlogged;
 
@@ -94,6 +94,23 @@ fn claim_block(map: &mut [u8], kind: u8, a: u64, log: OverlapLog) -> Claimed
     Claimed { step, log }
 }
 
+// Owns the blocks from start on, up to the first that another kind holds, or end; no log is carried along.
+fn own_from(map: &mut [u8], kind: u8, start: u64, end: u64) -> u64
+    requires { ⌜ kind < 16 ⌝ }
+    ensures { λ r. ⌜ OwnedTo kind start end r (now (map .entry)) (now (map .exit)) ⌝ }
+{
+    let mut a = start;
+    while a < end {
+        let held = block_map::owner(block_map::cell(map, a));
+        if !takes(kind, held) {
+            return a;
+        }
+        block_map::own_block(map, a, kind);
+        a += 1;
+    }
+    a
+}
+
 // The blocks from start up to end, which is inside the container.
 fn claim_from(
     map: &mut [u8],
@@ -107,7 +124,7 @@ fn claim_from(
     ensures { λ r. ⌜ ClaimedAs count r (now (map .entry)) (now (map .exit)) (claimFrom kind (end - start) start (owned (now (map .entry)) log)) ⌝ }
 {
     let mut overlaps = log;
-    let mut a = start;
+    let mut a = own_from(map, kind, start, end);
     while a < end {
         let claimed = claim_block(map, kind, a, overlaps);
         let step = claimed.step;
@@ -116,7 +133,7 @@ fn claim_from(
             Step::Done => {
                 let next = claimed.log;
                 overlaps = next;
-                a += 1;
+                a = own_from(map, kind, a + 1, end);
             }
         }
     }

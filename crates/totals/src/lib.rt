@@ -79,18 +79,6 @@ fn counts_in(row: &[u8]) -> Counts
     Counts { used, leaked, lost }
 }
 
-// The first block stays: the count tells whether there is one, since it may be block 0.
-fn one_more(l: Lost, block: u64) -> Lost
-    requires { ⌜ l .count < 2 ^ 64 - 1 ⌝ }
-    ensures { λ r. ⌜ r ≡ oneMore block l ⌝ }
-{
-    let first = if l.count == 0 { block } else { l.first };
-    Lost {
-        count: l.count + 1,
-        first,
-    }
-}
-
 // A row that is all 0 counts for nothing.
 fn counts_of(row: &[u8]) -> Counts
     requires { ⌜ length (now row) < 256 ⌝ }
@@ -104,6 +92,18 @@ fn counts_of(row: &[u8]) -> Counts
         };
     }
     counts_in(row)
+}
+
+// The first block stays: the count tells whether there is one, since it may be block 0.
+fn one_more(l: Lost, block: u64) -> Lost
+    requires { ⌜ l .count < 2 ^ 64 - 1 ⌝ }
+    ensures { λ r. ⌜ r ≡ oneMore block l ⌝ }
+{
+    let first = if l.count == 0 { block } else { l.first };
+    Lost {
+        count: l.count + 1,
+        first,
+    }
 }
 
 // The lost blocks of a row whose first byte is block start's, after those of before.
