@@ -5,3 +5,4 @@ pub mod WalkLaws
 pub mod ReadLaws
 pub mod VisitLaws
 pub mod QueueLaws
+pub mod UnloggedLaws

@@ -1,10 +1,11 @@
 -- What the code's answers stand for.
 use mathlib.Core.List.{List}
 use mathlib.Core.Path.{_≡_}
-use Prim.Native.Nat.{ℕ, suc, pred, _<_}
+use Prim.Native.Nat.{ℕ, suc, pred, _<_, _-_, _≤_}
 use Rattle.blocks.specs.Reads.{Reads, run}
 use Rattle.blocks.specs.Blocks.{blockOf}
 use Rattle.blocks.specs.declared.Container.{Container}
+use Rattle.nodes.specs.Scan.{leafFrom}
 use Rattle.nodes.specs.Walk.{walkBelow}
 use Rattle.nodes.specs.Walk as walk
 use Rattle.nodes.specs.declared.Description.{Description}
@@ -14,10 +15,12 @@ use Rattle.report.specs.declared.OverlapLog.{OverlapLog}
 use Rattle.audit.specs.Answers.{Stepped}
 use Rattle.claims.specs.Claims.{claimNode}
 use Rattle.claims.specs.declared.Claimed.{Claimed}
+use Rattle.trees.specs.Visits.{treeVisit, treeChild}
 use Rattle.trees.specs.Walks.{childrenOf, alongWay}
 use Rattle.trees.specs.declared.Checkpoint.{Checkpoint}
 use Rattle.trees.specs.declared.Entered.{Entered}
 use Rattle.trees.specs.declared.Figures.{Figures}
+use Rattle.trees.specs.declared.Tree.{Tree}
 use Rattle.trees.specs.declared.Visited.{Visited}
 use Rattle.trees.specs.declared.Walked.{Walked}
 use Rattle.trees.specs.declared.Way.{Way}
@@ -50,3 +53,10 @@ WayOf d b r =
 pub record Enters (image : List ℕ) (c : Container) (d : Description) (a : ℕ) (r : Entered) (before after : List ℕ) (log : OverlapLog) : Type 0 where
   pub goes : (levels left : ℕ) → 0 < left → alongWay (claimNode c) c d (blockOf image (c .size)) levels (blockOf image (c .size) a) (r .way) (walked after (pred left) (r .log)) ≡ run (blockOf image (c .size)) (walkBelow (claimNode c) c d (suc levels) a (walked before left log))
   pub kept : Kept (c .count) before after
+
+-- the entries of a leaf from i up to r, of n, were visited and logged nothing: what is left from r on is the whole, whatever was logged before
+pub record LeafTo (f : ℕ → List ℕ) (t : Tree) (b : List ℕ) (n i r : ℕ) (before after : List ℕ) : Type 0 where
+  pub rest : (figures : Figures) → run f (leafFrom (treeVisit f t (t .purpose)) (t .description) (treeChild f t) b (n - r) r (figured after figures)) ≡ run f (leafFrom (treeVisit f t (t .purpose)) (t .description) (treeChild f t) b (n - i) i (figured before figures))
+  pub most : r ≤ n
+  pub kept : Kept (t .checkpoint .container .count) before after
+  pub from : i ≤ r
