@@ -11,10 +11,10 @@ ghost use mathlib.Core.Path.{_≡_};
 ghost use mathlib.Core.Bool.{not};
 ghost use Prim.Native.Nat.{_+_, _-_, _^_, _≤_, _<_};
 ghost use lib.Dec.{eqb};
-ghost use lib.ListN.{length, getD, set, take};
+ghost use lib.ListN.{length, take};
 ghost use Rattle.fields.specs.Choice.{pick};
 ghost use Rattle.totals.specs.Totals.{isLeaked, lostIn, verdictOf};
-ghost use Rattle.totals.specs.Counting.{firstKind, lostKind, noLost, oneMore, lostAfter, totalsOf, countsIn, Room};
+ghost use Rattle.totals.specs.Counting.{firstKind, lostKind, oneMore, lostAfter, totalsOf, countsIn, Room};
 
 // The owner of the first kind of claimants.
 const FIRST_KIND: u8 = 1;
