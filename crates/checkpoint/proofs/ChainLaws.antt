@@ -283,17 +283,14 @@ module _ (b : List ℕ) (id : ObjectId) (n i : ℕ) where
   unfolding lookup mappingsFrom
   block-done h = let e : n - i ≡ 0 = omega arith in rw e refl
 
-  module _ (h : i < n) (m : Mapping) (is : m ≡ mappingAt b (mapEntriesAt + mapEntryLength * i)) where
-    same-id : mappingAt b (mapEntriesAt + mapEntryLength * i) .id .0 ≡ m .id .0
-    same-id = ap (λ (x : Mapping). x .id .0) (sym is)
-
-    pub block-here : m .id .0 ≡ id .0 → left ≡ To m
+  module _ (h : i < n) (found : ℕ) (is : found ≡ mappingAt b (mapEntriesAt + mapEntryLength * i) .id .0) where
+    pub block-here : (m : Mapping) → m ≡ mappingAt b (mapEntriesAt + mapEntryLength * i) → found ≡ id .0 → left ≡ To m
     unfolding lookup mappingsFrom
-    block-here e = let s : n - i ≡ suc (n - (i + 1)) = omega arith in rw (s, eq-eqb (mappingAt b (mapEntriesAt + mapEntryLength * i) .id .0) (id .0) (same-id ∙ e)) (ap To (sym is))
+    block-here m q e = let s : n - i ≡ suc (n - (i + 1)) = omega arith in rw (s, eq-eqb (mappingAt b (mapEntriesAt + mapEntryLength * i) .id .0) (id .0) (sym is ∙ e)) (ap To (sym q))
 
-    pub block-next : (m .id .0 ≡ id .0 → ⊥) → left ≡ lookup id (mappingsFrom b (n - (i + 1)) (mapEntriesAt + mapEntryLength * (i + 1)))
+    pub block-next : (found ≡ id .0 → ⊥) → left ≡ lookup id (mappingsFrom b (n - (i + 1)) (mapEntriesAt + mapEntryLength * (i + 1)))
     unfolding lookup mappingsFrom
     block-next e =
         let s : n - i ≡ suc (n - (i + 1)) = omega arith in
         let next : mapEntriesAt + mapEntryLength * (i + 1) ≡ mapEntriesAt + mapEntryLength * i + mapEntryLength = omega arith in
-        rw (s, next, ne-eqb (mappingAt b (mapEntriesAt + mapEntryLength * i) .id .0) (id .0) (λ p. e (sym same-id ∙ p))) refl
+        rw (s, next, ne-eqb (mappingAt b (mapEntriesAt + mapEntryLength * i) .id .0) (id .0) (λ p. e (is ∙ p))) refl

@@ -158,9 +158,9 @@ fn lookup_in_block(b: &[u8], id: ObjectId) -> Mapped
     let n = map_count(b);
     let mut i = 0;
     while i < n {
-        let m = mapping_at(b, ENTRIES + ENTRY_LENGTH * i as usize);
-        if m.id.0 == id.0 {
-            return Mapped::To(m);
+        let at = ENTRIES + ENTRY_LENGTH * i as usize;
+        if fields::u64_of(b, at + ENTRY_ID) == id.0 {
+            return Mapped::To(mapping_at(b, at));
         }
         i += 1;
     }
