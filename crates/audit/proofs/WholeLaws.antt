@@ -2,7 +2,7 @@
 use mathlib.Core.Bool.{Bool, true, false}
 use mathlib.Core.List.{List}
 use mathlib.Core.Path.{_≡_, refl, sym, ap, _∙_}
-use Prim.Native.Nat.{ℕ, zero, suc, _+_, _-_, _*_, _/_, _%_, _^_, _≤_, _<_}
+use Prim.Native.Nat.{ℕ, zero, suc, _+_, _-_, _*_, _^_, _≤_, _<_}
 use native.Mathlib.Nat.{add-zero, zero-add, suc-add}
 use native.Mathlib.Omega.{arith}
 use lib.ListN.{length, getD, set}
@@ -13,7 +13,7 @@ use Rattle.fields.specs.Fields.{bit, bitAt}
 use Rattle.blocks.specs.Reads.{run, need, _>>=_}
 use Rattle.blocks.specs.Blocks.{sum}
 use Rattle.blocks.specs.declared.Container.{Container}
-use Rattle.block_map.specs.BlockMap.{Marked, Kept, update, marked}
+use Rattle.block_map.specs.BlockMap.{Marked, Kept, marked}
 use Rattle.block_map.proofs.Laws.{update-set, kept-same, kept-then, kept-update}
 use Rattle.pool.proofs.Laws.{bit-read-of, bit-none}
 use Rattle.report.specs.declared.Step.{Step}

@@ -9,6 +9,7 @@ use blocks::Container;
 use blocks::Refusal;
 use blocks::Seen;
 use manager::Chunk;
+use pool::BYTE_BITS;
 use report::Step;
 ghost use mathlib.Core.List.{List};
 ghost use mathlib.Core.Path.{_≡_};
@@ -79,15 +80,7 @@ fn mark_bits(map: &mut [u8], container: Container, bits: &[u8], start: u64, bloc
 {
     let n = whole::whole_bytes(map, container, bits, start, blocks);
     let zeros = whole::mark_bytes(map, bits, start, n);
-    mark_rest(
-        map,
-        container,
-        bits,
-        start,
-        blocks,
-        whole::BYTE_BITS * n,
-        zeros,
-    )
+    mark_rest(map, container, bits, start, blocks, BYTE_BITS * n, zeros)
 }
 
 // 1 for a chunk whose free count differs from its zeros.
@@ -146,7 +139,7 @@ fn has_bits(bits: &[u8], n: u64) -> bool
     if n == 0 {
         return true;
     }
-    if (n - 1) / whole::BYTE_BITS < bits.len() as u64 {
+    if (n - 1) / BYTE_BITS < bits.len() as u64 {
         return true;
     }
     false

@@ -1,14 +1,12 @@
 // The whole bytes of a chunk's bitmap whose blocks the container and the map have: none of their bits is refused.
 use blocks::Container;
-ghost use mathlib.Core.Bool.{not};
+use pool::BYTE_BITS;
 ghost use mathlib.Core.Path.{_≡_};
-ghost use Prim.Native.Nat.{_+_, _-_, _*_, _<_, _≤_, min};
+ghost use Prim.Native.Nat.{_-_, _*_, _≤_, min};
 ghost use lib.ListN.{length};
 ghost use Rattle.fields.specs.Choice.{pick};
 ghost use Rattle.block_map.specs.BlockMap.{marked};
 ghost use Rattle.audit.specs.Bits.{bitsMarked, wholeBytes, InMap};
-
-pub(crate) const BYTE_BITS: u64 = 8;
 
 fn least(a: u64, b: u64) -> u64
     ensures { λ r. ⌜ r ≡ min a b ⌝ }

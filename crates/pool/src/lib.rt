@@ -19,7 +19,7 @@ ghost use Rattle.pool.specs.Place.{bitmapIn, poolIn};
 ghost use Rattle.pool.specs.Unused.{unusedOne, byteEnd, OneByte};
 ghost use Rattle.pool.specs.Load.{placeIn, places, BitmapSeen, BitmapsSeen, poolFrom};
 
-const BYTE_BITS: u64 = 8;
+pub const BYTE_BITS: u64 = 8;
 
 // Where the pool lies, and through what its bitmap is found: the manager, the ring of its bitmap blocks, how many of these there
 // are, and where in the manager their places in the ring are listed.

@@ -2,7 +2,7 @@ use borrow.Author.Needs.{needs}
 use Rattle.pool.proofs.Laws.{Counted, counted-few, counted-span, counted-done}
 use Rattle.pool.specs.Place.{poolIn}
 use Rattle.blocks.specs.Blocks.{blockOf}
-use mathlib.Core.Path.{refl, sym, _∙_}
+use mathlib.Core.Path.{refl, _∙_}
 use native.Mathlib.Nat.{sub-zero, add-zero}
 use Prim.Native.Nat.{_-_, _≤_}
 use Rattle.pool.proofs.unused.Statement.{statement}

@@ -5,7 +5,7 @@ use Rattle.audit.specs.Bits.{bitsMarked}
 use lib.ListN.{length}
 use mathlib.Core.Path.{_≡_, refl, sym, _∙_}
 use mathlib.Core.Logic.{⊎-elim}
-use Prim.Native.Nat.{_+_, _-_, _*_, _≤_}
+use Prim.Native.Nat.{_-_, _*_, _≤_}
 use native.Mathlib.Omega.{arith}
 use Rattle.audit.proofs.whole.mark_bytes.Statement.{statement}
 use Rattle.audit.proofs.whole.mark_bytes.Tie as tie
