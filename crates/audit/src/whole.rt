@@ -3,10 +3,13 @@ use blocks::Container;
 use pool::BYTE_BITS;
 ghost use mathlib.Core.Path.{_≡_};
 ghost use Prim.Native.Nat.{_-_, _*_, _≤_, min};
-ghost use lib.ListN.{length};
+ghost use lib.ListN.{length, getD};
 ghost use Rattle.fields.specs.Choice.{pick};
 ghost use Rattle.block_map.specs.BlockMap.{marked};
 ghost use Rattle.audit.specs.Bits.{bitsMarked, wholeBytes, InMap};
+
+// A byte whose bits are all 1.
+const ONES: u8 = 0xff;
 
 fn least(a: u64, b: u64) -> u64
     ensures { λ r. ⌜ r ≡ min a b ⌝ }
@@ -47,13 +50,11 @@ fn zero_of(set: bool) -> u64
     if set { 0 } else { 1 }
 }
 
-// The eight blocks of byte j, with no branch on a bit; answers how many bits were 0, after zeros.
-fn mark_byte(map: &mut [u8], bits: &[u8], start: u64, j: u64, zeros: u64) -> u64
-    requires { ⌜ InMap (now map) (now bits) start j zeros ⌝ }
+// The eight blocks of byte j, which is b, with no branch on a bit; answers how many bits were 0, after zeros.
+fn mark_eight(map: &mut [u8], bits: &[u8], start: u64, j: u64, b: u8, zeros: u64) -> u64
+    requires { ⌜ InMap (now map) (now bits) start j zeros × (b ≡ getD (now bits) j 0) ⌝ }
     ensures { λ r. ⌜ record { map = now (map .exit); figures = r } ≡ bitsMarked (now (bits .entry)) start 8 (8 * j) (record { map = now (map .entry); figures = zeros }) ⌝ }
 {
-    let at = j as usize;
-    let b = bits[at];
     let first = start + BYTE_BITS * j;
     let mut clear = zeros;
     for k in 0..BYTE_BITS {
@@ -63,6 +64,19 @@ fn mark_byte(map: &mut [u8], bits: &[u8], start: u64, j: u64, zeros: u64) -> u64
         clear += zero_of(set);
     }
     clear
+}
+
+// The same; a byte of ones is most of what isn't 0, and is marked as one word where the compiler sees its value.
+fn mark_byte(map: &mut [u8], bits: &[u8], start: u64, j: u64, zeros: u64) -> u64
+    requires { ⌜ InMap (now map) (now bits) start j zeros ⌝ }
+    ensures { λ r. ⌜ record { map = now (map .exit); figures = r } ≡ bitsMarked (now (bits .entry)) start 8 (8 * j) (record { map = now (map .entry); figures = zeros }) ⌝ }
+{
+    let at = j as usize;
+    let b = bits[at];
+    if b == ONES {
+        return mark_eight(map, bits, start, j, ONES, zeros);
+    }
+    mark_eight(map, bits, start, j, b, zeros)
 }
 
 // The first n bytes; answers how many bits were 0. A byte 0 touches nothing: a page of the map never written costs no memory.

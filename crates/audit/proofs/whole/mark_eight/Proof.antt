@@ -6,17 +6,14 @@ use lib.ListN.{length}
 use mathlib.Core.Path.{_≡_, refl, sym, _∙_}
 use Prim.Native.Nat.{_+_, _-_, _*_, _≤_}
 use native.Mathlib.Omega.{arith}
-use Rattle.audit.proofs.whole.mark_byte.Statement.{statement}
-use Rattle.audit.proofs.whole.mark_byte.Tie as tie
+use Rattle.audit.proofs.whole.mark_eight.Statement.{statement}
+use Rattle.audit.proofs.whole.mark_eight.Tie as tie
 
 abbrev Inv-loop : tie.InvT-loop
-Inv-loop map₀ bits start j zeros at b first clear₀ k₀ map clear k = (k ≤ 8) × (clear ≤ 8 * j + k) × (length map ≡ length map₀) × (bitsMarked bits start (8 - k) (8 * j + k) (record { map = map; figures = clear }) ≡ bitsMarked bits start 8 (8 * j) (record { map = map₀; figures = zeros }))
+Inv-loop map₀ bits start j b zeros first clear₀ k₀ map clear k = (k ≤ 8) × (clear ≤ 8 * j + k) × (length map ≡ length map₀) × (bitsMarked bits start (8 - k) (8 * j + k) (record { map = map; figures = clear }) ≡ bitsMarked bits start 8 (8 * j) (record { map = map₀; figures = zeros }))
 
 abbrev μ-loop : tie.MeasureT-loop
-μ-loop map₀ bits start j zeros at b first clear₀ k₀ map clear k = 8 - k
-
-shared-slice-read-b : tie.Need-shared-slice-read-b Inv-loop μ-loop
-shared-slice-read-b c = search needs
+μ-loop map₀ bits start j b zeros first clear₀ k₀ map clear k = 8 - k
 
 mul-first : tie.Need-mul-first Inv-loop μ-loop
 mul-first c = search needs
@@ -55,7 +52,7 @@ loop-less : tie.Need-loop-less Inv-loop μ-loop
 loop-less c = search needs
 
 loop-again : tie.Need-loop-again Inv-loop μ-loop
-loop-again c = (search needs, search needs, search needs, byte-more _ _ _ _ _ _ _ _ _ _ _ _ (search needs) refl (c .before .before .before .bit-of .ensures) (omega arith) (c .before .with-bit .ensures) (c .zero-of .ensures .0) (c .before .before .before .before .before .loop .inv .3))
+loop-again c = (search needs, search needs, search needs, byte-more _ _ _ _ _ _ _ _ _ _ _ _ (search needs) (search needs) (c .before .before .before .bit-of .ensures) (omega arith) (c .before .with-bit .ensures) (c .zero-of .ensures .0) (c .before .before .before .before .before .loop .inv .3))
 
 same-length : tie.Need-same-length Inv-loop μ-loop
 same-length c = search needs
@@ -63,13 +60,12 @@ same-length c = search needs
 returns : tie.Need-returns Inv-loop μ-loop
 returns c = sym (bits-over _ _ _ _ _ _ (c .loop-test .left)) ∙ c .before .loop .inv .3
 
-pub mark-byte-spec : {M : Type 1} → statement M
-mark-byte-spec =
+pub mark-eight-spec : {M : Type 1} → statement M
+mark-eight-spec =
     tie.close
     (tie.spec
     Inv-loop
     μ-loop
-    shared-slice-read-b
     mul-first
     add-first
     loop-holds
