@@ -114,11 +114,6 @@ impl Answer {
     }
 }
 
-/// The first place at which two answers part, with both figures.
-pub fn parting(a: &[u64], b: &[u64]) -> Option<(usize, u64, u64)> {
-    a.iter().zip(b).enumerate().find(|(_, (x, y))| x != y).map(|(i, (x, y))| (i, *x, *y))
-}
-
 #[cfg(test)]
 mod tests {
     use super::*;

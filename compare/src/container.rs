@@ -18,6 +18,8 @@ const VOLUME_ID: u64 = 0x480;
 /// Stored beside the kind in a type: an ephemeral and a physical object.
 const EPHEMERAL: u64 = 0x8000_0000;
 const PHYSICAL: u64 = 0x4000_0000;
+/// Set in an area's length, it says that the area isn't one piece.
+const TOP_BIT: u64 = 0x8000_0000;
 
 /// A build under way.
 struct Build<'a> {
@@ -31,7 +33,7 @@ struct Build<'a> {
 
 /// Blocks of the data ring that a build has given away.
 struct Ephemeral {
-    /// For each manager, the address of its first block and its length.
+    /// For each manager, the address at which it is mapped and its length.
     managers: Vec<(u64, u64)>,
     /// Ids and addresses of the queues' nodes.
     nodes: Vec<(u64, u64)>,
@@ -191,7 +193,7 @@ impl Build<'_> {
             for (part, &address) in bytes.chunks(shape.block_size).zip(&blocks) {
                 self.block(address)[..part.len()].copy_from_slice(part);
             }
-            managers.push((blocks[0], bytes.len() as u64));
+            managers.push((blocks[0] + shape.turns * ring, bytes.len() as u64));
         }
         let mut nodes = Vec::new();
         let queues =
@@ -314,7 +316,7 @@ impl Build<'_> {
             (s::BLOCK_COUNT, places.count),
             (s::INCOMPATIBLE, 2),
             (s::DESCRIPTOR_BLOCKS, shape.descriptor_blocks()),
-            (s::DATA_BLOCKS, shape.data_blocks()),
+            (s::DATA_BLOCKS, shape.data_blocks() | if shape.data_top_bit { TOP_BIT } else { 0 }),
             (s::DESCRIPTOR_BASE, places.descriptors),
             (s::DATA_BASE, places.data),
             (s::DESCRIPTOR_INDEX, index),
@@ -335,8 +337,9 @@ impl Build<'_> {
         entries.push((OTHER_ID, self.places.data, size, 0));
         self.rng.shuffle(&mut entries);
         if self.rng.chance(20) {
-            // A second entry with an id already there: the first holds.
-            entries.push((MANAGER_ID, self.places.data + 1, 1, object::MANAGER));
+            // A second entry with an id already there, the manager's or a queue's: the first holds.
+            let &(id, _, _, kind) = self.rng.pick(&entries);
+            entries.push((id, self.places.data + 1, size, kind));
         }
         let mut cuts: Vec<usize> = (1..chain).map(|_| self.rng.below(entries.len() as u64 + 1) as usize).collect();
         cuts.extend([0, entries.len()]);

@@ -4,9 +4,11 @@ use std::collections::{BTreeMap, BTreeSet};
 use std::fmt;
 
 use crate::answer::{Answer, Report, CONSISTENT, KINDS, LISTED, PROBLEMS};
+use crate::image::Image;
 use crate::judge::{is_due, Judgement};
 use crate::messages;
-use crate::refusal;
+use crate::model::{Notes, Pass, HIGHEST_COUNT, WALK_LEVELS};
+use crate::refusal::{self, Refusal, LAST_UNTOUCHED};
 use crate::worker::Reply;
 
 /// A thing that can happen.
@@ -30,11 +32,21 @@ const NO_MATCH: &str = "device free count doesn't match";
 const LEAKED: &str = "leaked blocks";
 const CHAIN_SUM: &str = "a report after an overflowing chain sum";
 const CHAIN_REPEATS: &str = "a report after a map chain that came round its ring";
-const CHAIN_ENDLESS: &str = "a report after a map chain of more than 2^24 blocks";
+const CHAIN_LONG: &str = "a report after a map chain of more than 2^16 blocks";
 const MANAGER_REPEATS: &str = "a report with a manager longer than its ring";
+const LONGER_MAP: &str = "a report with a map longer than the count";
+const LONGER_MAP_REFUSED: &str = "a refusal from 12 on with a map longer than the count";
+// The near sides of the added refusals: one that came too early would leave such a row empty.
+const NEAR_4: &str = "near 4: a count of 2^32 - 1, refused by 5 and not by 4";
+const NEAR_5: &str = "near 5: a report on an image of exactly count x size bytes";
+const NEAR_6: &str = "near 6: a report with a map of exactly count bytes";
+const NEAR_8: &str = "near 8: a report, the descriptor area ends at the count";
+const NEAR_21: &str = "near 21: a report, a pool-queue entry ends at the count";
+const NEAR_22_NODES: &str = "near 22: a report after a walk of as many nodes as blocks";
+const NEAR_22_LEVELS: &str = "near 22: a report after a walk of 33 levels";
 const DAMAGES: &str = "several damages";
 
-const FINDINGS: [&str; 11] = [
+const FINDINGS: [&str; 20] = [
     MANY_PROBLEMS,
     MANY_OVERLAPS,
     UNUSED,
@@ -43,9 +55,53 @@ const FINDINGS: [&str; 11] = [
     LEAKED,
     CHAIN_SUM,
     CHAIN_REPEATS,
-    CHAIN_ENDLESS,
+    CHAIN_LONG,
     MANAGER_REPEATS,
+    LONGER_MAP,
+    LONGER_MAP_REFUSED,
+    NEAR_4,
+    NEAR_5,
+    NEAR_6,
+    NEAR_8,
+    NEAR_21,
+    NEAR_22_NODES,
+    NEAR_22_LEVELS,
     DAMAGES,
+];
+
+/// The shapes that have to be met, as the survey names them.
+const SHAPES: [&str; 31] = [
+    "block size 4096",
+    "block size 8192",
+    "block size 16384",
+    "block size 32768",
+    "block size 65536",
+    "several checkpoints",
+    "an older checkpoint taken",
+    "equal xids",
+    "chain over several blocks",
+    "chain wraps",
+    "manager over several blocks",
+    "manager wraps",
+    "manager mapped twice",
+    "manager mapped beyond its ring",
+    "data length with its top bit",
+    "pool bitmap of several blocks",
+    "several chunk-info blocks",
+    "chunk of no blocks",
+    "node of fixed sizes",
+    "node of variable sizes",
+    "object map of 1 level(s)",
+    "object map of 2 level(s)",
+    "object map of 3 level(s)",
+    "object map with ghosts",
+    "object map with deleted mappings",
+    "queue of 1 level(s)",
+    "queue of 2 level(s)",
+    "queue of 3 level(s)",
+    "queue with ghosts",
+    "queue entry of count 0",
+    "queue mapped twice",
 ];
 
 impl fmt::Display for Row {
@@ -65,7 +121,7 @@ impl fmt::Display for Row {
     }
 }
 
-/// Every row that has to be reached; shapes come as they are met.
+/// Every row that has to be reached.
 pub fn wanted() -> Vec<Row> {
     let mut rows: Vec<Row> = (1..=refusal::LAST).map(Row::Refusal).collect();
     rows.extend((1..=2).map(Row::Verdict));
@@ -75,30 +131,53 @@ pub fn wanted() -> Vec<Row> {
     rows.extend((2..=KINDS.len() as u64).map(Row::Claimant));
     rows.extend((1..=KINDS.len() as u64).map(Row::Lost));
     rows.extend(FINDINGS.map(Row::Finding));
+    rows.extend(SHAPES.map(|name| Row::Shape(name.into())));
     rows
 }
 
-/// The rows of one image.
-pub fn rows(judgement: &Judgement, ways: &[String], features: &[String]) -> BTreeSet<Row> {
+/// The rows of one image with the model's answer on it.
+pub fn rows(pass: &Pass, image: &Image) -> BTreeSet<Row> {
     let mut rows = BTreeSet::new();
-    match &judgement.pass.answer {
+    match &pass.answer {
         Answer::Refused(number) => {
             rows.insert(Row::Refusal(*number));
+            rows.extend(refusal_rows(*number, pass));
         }
-        Answer::Reported(report) => report_rows(report, &mut rows),
+        Answer::Reported(report) => {
+            report_rows(report, &mut rows);
+            rows.extend(noted_rows(&pass.notes));
+        }
     }
-    let reported = matches!(judgement.pass.answer, Answer::Reported(_));
-    rows.extend(held(&[
-        (CHAIN_SUM, reported && judgement.pass.notes.chain_sum_overflowed),
-        (CHAIN_REPEATS, reported && judgement.pass.notes.repeated_chain > 0),
-        (MANAGER_REPEATS, reported && judgement.pass.notes.repeated_manager),
-        (CHAIN_ENDLESS, reported && judgement.pass.notes.repeated_chain > 1 << 24),
-        (DAMAGES, ways.len() > 1),
-    ]));
-    if ways.is_empty() {
-        rows.extend(features.iter().cloned().map(Row::Shape));
+    rows.extend(held(&[(DAMAGES, image.ways.len() > 1)]));
+    if image.ways.is_empty() {
+        rows.extend(image.features.iter().cloned().map(Row::Shape));
     }
     rows
+}
+
+fn refusal_rows(number: u64, pass: &Pass) -> Vec<Row> {
+    let at_highest = pass.notes.count == HIGHEST_COUNT;
+    held(&[
+        (LONGER_MAP_REFUSED, number > LAST_UNTOUCHED && !pass.notes.map_exact),
+        (NEAR_4, at_highest && pass.refusal == Some(Refusal::ImageBelowCount)),
+    ])
+}
+
+/// What a report's notes tell.
+fn noted_rows(notes: &Notes) -> Vec<Row> {
+    held(&[
+        (CHAIN_SUM, notes.chain_sum_overflowed),
+        (CHAIN_REPEATS, notes.repeated_chain > 0),
+        (CHAIN_LONG, notes.repeated_chain > 1 << 16),
+        (MANAGER_REPEATS, notes.repeated_manager),
+        (LONGER_MAP, !notes.map_exact),
+        (NEAR_5, notes.image_exact),
+        (NEAR_6, notes.map_exact),
+        (NEAR_8, notes.area_ends_at_count),
+        (NEAR_21, notes.queued_to_count),
+        (NEAR_22_NODES, notes.walked.nodes == notes.count),
+        (NEAR_22_LEVELS, notes.walked.levels == WALK_LEVELS),
+    ])
 }
 
 fn report_rows(report: &Report, rows: &mut BTreeSet<Row>) {
@@ -119,8 +198,8 @@ fn report_rows(report: &Report, rows: &mut BTreeSet<Row>) {
 }
 
 /// The findings whose test holds.
-fn held<'a>(tests: &'a [(&'static str, bool)]) -> impl Iterator<Item = Row> + 'a {
-    tests.iter().filter(|(_, test)| *test).map(|(name, _)| Row::Finding(name))
+fn held(tests: &[(&'static str, bool)]) -> Vec<Row> {
+    tests.iter().filter(|(_, test)| *test).map(|(name, _)| Row::Finding(name)).collect()
 }
 
 #[derive(Default)]
@@ -147,12 +226,12 @@ impl Coverage {
         Coverage { rows, all: Tally::default(), messages: BTreeMap::new() }
     }
 
-    pub fn add(&mut self, judgement: &Judgement, ways: &[String], features: &[String]) {
-        for row in rows(judgement, ways, features) {
-            self.rows.entry(row).or_default().add(judgement, ways);
+    pub fn add(&mut self, judgement: &Judgement, image: &Image) {
+        for row in rows(&judgement.pass, image) {
+            self.rows.entry(row).or_default().add(judgement, &image.ways);
         }
-        self.all.add(judgement, ways);
-        if let (true, Reply::Error(message), Answer::Refused(number)) =
+        self.all.add(judgement, &image.ways);
+        if let (true, Some(Reply::Error(message)), Answer::Refused(number)) =
             (is_due(&judgement.pass), &judgement.original, &judgement.pass.answer)
         {
             *self.messages.entry((*number, messages::number(message))).or_default() += 1;
@@ -190,8 +269,8 @@ impl Tally {
         self.images += 1;
         match &judgement.original {
             _ if !is_due(&judgement.pass) => self.added += 1,
-            Reply::Panic(_) => self.panics += 1,
-            Reply::Abort => self.aborts += 1,
+            Some(Reply::Panic(_)) => self.panics += 1,
+            Some(Reply::Abort) => self.aborts += 1,
             _ => self.compared += 1,
         }
         // Only where the damage is the only one is it known to be the way.

@@ -1,13 +1,9 @@
 //! Targeted damage: a field by name set to a boundary or random value, bits and bytes changed, recipes.
 
-use std::ops::Range;
-
-use crate::fields::{checkpoint_map, mapping, put, Field};
-use crate::fletcher::seal;
-use crate::image::Image;
+use crate::draft::Draft;
+use crate::fields::{mapping, Field};
 use crate::recipes::RECIPES;
-use crate::rng::Rng;
-use crate::survey::{Object, Role, Survey};
+use crate::survey::{Object, Role};
 
 /// Sizes that something is compared with somewhere.
 const SIZES: [u64; 22] = [
@@ -17,14 +13,6 @@ const SIZES: [u64; 22] = [
 
 /// A manager of more bytes than this costs seconds: most such values are made smaller.
 const DEAR_SIZE: u64 = 1 << 24;
-
-/// An image under way.
-pub struct Draft<'a> {
-    pub image: Image,
-    /// The objects of the undamaged container.
-    pub survey: &'a Survey,
-    pub rng: &'a mut Rng,
-}
 
 impl<'a> Draft<'a> {
     /// One damage of whichever kind.
@@ -48,11 +36,6 @@ impl<'a> Draft<'a> {
                 self.damage_field();
             }
         }
-    }
-
-    fn note(&mut self, way: &str, made: &str) {
-        self.image.ways.push(way.to_string());
-        self.image.made.push(format!("{way}: {made}"));
     }
 
     /// An object of a role chosen first, so that rare roles are damaged as often as frequent ones.
@@ -163,72 +146,5 @@ impl<'a> Draft<'a> {
             &format!("{}.bytes", object.role.name()),
             &format!("block {} bytes {at} to {}{seal}", object.blocks[0], at + field.width),
         );
-    }
-
-    /// Where byte `i` of an object stands in the image.
-    fn place(&self, object: &Object, i: usize) -> usize {
-        object.blocks[i / self.survey.block_size] as usize * self.survey.block_size + i % self.survey.block_size
-    }
-
-    /// Bytes past the image's end, which another damage may have cut, read as 0.
-    fn byte(&self, object: &Object, i: usize) -> u8 {
-        self.image.bytes.get(self.place(object, i)).copied().unwrap_or(0)
-    }
-
-    pub fn get(&self, object: &Object, field: Field) -> u64 {
-        (0..field.width).rev().fold(0, |n, k| n << 8 | u64::from(self.byte(object, field.at + k)))
-    }
-
-    pub fn set(&mut self, object: &Object, field: Field, value: u64) {
-        let mut bytes = [0; 8];
-        put(&mut bytes, 0, field.width, value);
-        self.store(object, field.at, &bytes[..field.width]);
-    }
-
-    fn store(&mut self, object: &Object, at: usize, bytes: &[u8]) {
-        for (k, &byte) in bytes.iter().enumerate() {
-            let place = self.place(object, at + k);
-            if let Some(b) = self.image.bytes.get_mut(place) {
-                *b = byte;
-            }
-        }
-    }
-
-    pub fn reseal(&mut self, object: &Object) {
-        let mut bytes: Vec<u8> = (0..object.length).map(|i| self.byte(object, i)).collect();
-        seal(&mut bytes);
-        self.store(object, 0, &bytes[..8]);
-    }
-
-    /// Sets fields of an object and seals it.
-    pub fn rewrite(&mut self, object: &Object, fields: &[(Field, u64)]) {
-        fields.iter().for_each(|&(field, value)| self.set(object, field, value));
-        if object.role.sealed() {
-            self.reseal(object);
-        }
-    }
-
-    /// Where a whole block stands, where the image still has it.
-    pub fn place_of_block(&self, address: u64) -> Option<Range<usize>> {
-        let start = usize::try_from(address).ok()?.checked_mul(self.survey.block_size)?;
-        let end = start.checked_add(self.survey.block_size)?;
-        (end <= self.image.bytes.len()).then_some(start..end)
-    }
-
-    pub fn block(&mut self, address: u64) -> Option<&mut [u8]> {
-        let place = self.place_of_block(address)?;
-        Some(&mut self.image.bytes[place])
-    }
-
-    /// The places of all entries that map `id`, each with the map block that holds it.
-    pub fn mapping_entries(&self, id: u64) -> Vec<(&'a Object, usize)> {
-        let mut found = Vec::new();
-        for object in self.survey.with_role(Role::CheckpointMap) {
-            let room = (object.length - checkpoint_map::ENTRIES) / checkpoint_map::ENTRY;
-            let count = (self.get(object, checkpoint_map::COUNT) as usize).min(room);
-            let places = (0..count).map(|i| checkpoint_map::ENTRIES + i * checkpoint_map::ENTRY);
-            found.extend(places.filter(|&at| self.get(object, mapping::ID.shifted(at)) == id).map(|at| (object, at)));
-        }
-        found
     }
 }

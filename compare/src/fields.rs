@@ -130,6 +130,11 @@ pub mod manager {
     pub const LENGTH: usize = 344;
     pub const INDEX_WIDTH: usize = 2;
     pub const ADDRESS_WIDTH: usize = 8;
+    /// The second device's fields, which a pass doesn't read.
+    pub const SPARE: std::ops::Range<usize> = 96..144;
+    /// What the members of its lists are called.
+    pub const INDEX: &str = "bitmap index";
+    pub const CHUNK_INFO_ADDRESS: &str = "chunk-info address";
 }
 
 /// A chunk-info block.
@@ -220,6 +225,8 @@ pub mod description {
         VALUE_SIZE "value size" 12 4;
     }
     pub const LENGTH: usize = 40;
+    /// A pass reads no more of it.
+    pub const USED: usize = 16;
     pub const PHYSICAL: u64 = 0x10;
 }
 

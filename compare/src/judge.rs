@@ -2,45 +2,27 @@
 //!
 //! The original is the reference where it is one: on images that meet no added refusal and on which it neither
 //! panics nor aborts. There its report must be the model's, figure by figure and block by block, and its error must
-//! meet a refusal, of whichever number. The library, once linked, must give the model's answer and map everywhere
-//! and the original's where that is the reference.
+//! meet a refusal, of whichever number. The library, where linked, must give the model's answer and map everywhere
+//! and the original's where that is the reference. Model and library get the map in two fills.
 
 use std::io;
 
-use crate::answer::{parting, Answer};
-use crate::list::handed_in;
+use crate::answer::{Answer, MARKED, OWNER, POOL_USED};
+use crate::disagreement::{Disagreement, Party};
+use crate::fill::{Fill, FILLS};
+use crate::library;
 use crate::model::{self, Pass};
-use crate::refusal::Refusal;
+use crate::refusal::{Refusal, LAST_UNTOUCHED};
 use crate::worker::{Reply, Who, Worker, LARGE};
 
 pub struct Judgement {
     pub pass: Pass,
-    /// The map as the model leaves it.
+    /// The map as the model leaves it, handed in with the fill of the list.
     pub left: Vec<u8>,
-    pub original: Reply,
+    /// Nothing where the original wasn't asked.
+    pub original: Option<Reply>,
     /// What doesn't fit, where something doesn't.
-    pub disagreement: Option<String>,
-}
-
-impl Judgement {
-    /// How the original ended, and whose the number is.
-    pub fn ending(&self) -> String {
-        let word = match &self.original {
-            Reply::Answer(..) => "report",
-            Reply::Error(_) => "error",
-            Reply::Panic(_) => "panic",
-            Reply::Abort => "abort",
-            Reply::NotRun | Reply::Unreadable(_) => "nothing",
-        };
-        if !is_due(&self.pass) {
-            return format!("{word}, no reference: the number is the model's and added");
-        }
-        match (&self.original, &self.pass.answer) {
-            (Reply::Answer(..), _) => word.into(),
-            (_, Answer::Refused(_)) => format!("{word}, the number is the model's"),
-            (_, Answer::Reported(_)) => format!("{word}, no reference: the report is the model's"),
-        }
-    }
+    pub disagreement: Option<Disagreement>,
 }
 
 /// Whether the original is asked on images where its answer is no reference.
@@ -51,23 +33,43 @@ pub enum Ask {
 }
 
 pub fn judge(worker: &mut Worker, image: &[u8], map_length: usize, ask: Ask) -> io::Result<Judgement> {
-    let mut left = handed_in(map_length);
+    let mut left = Fill::Listed.map(map_length);
     let pass = model::check(image, &mut left);
-    let asked = ask == Ask::Always || is_due(&pass);
-    let mut original = if asked { worker.ask(Who::Original, image, map_length)? } else { Reply::NotRun };
-    if original == Reply::Abort && must_answer(&pass) {
-        // It may have wanted more memory or time than most images do.
-        original = Worker::new(LARGE).ask(Who::Original, image, map_length)?;
+    let original = ask_original(worker, image, map_length, &pass, ask)?;
+    let reply = original.as_ref();
+    let mut disagreement = model_breaks(image, &pass, &left).or_else(|| original_parts(&pass, &left, reply));
+    if library::LINKED && disagreement.is_none() {
+        disagreement = library_parts(worker, image, &pass, &left, reply)?;
     }
-    let library = if crate::library::LINKED { worker.ask(Who::Library, image, map_length)? } else { Reply::NotRun };
-    let disagreement =
-        original_parts(&pass, &left, &original).or_else(|| library_parts(&pass, &left, &original, &library));
     Ok(Judgement { pass, left, original, disagreement })
+}
+
+/// Holds a judgement against the answer and the map that are kept for its image.
+pub fn kept_parts(judgement: &Judgement, answer: &[u64], left: &[u8]) -> Option<Disagreement> {
+    answers_part([Party::Kept, Party::Model], (answer, left), (&judgement.pass.answer.numbers(), &judgement.left))
+}
+
+fn ask_original(
+    worker: &mut Worker,
+    image: &[u8],
+    map_length: usize,
+    pass: &Pass,
+    ask: Ask,
+) -> io::Result<Option<Reply>> {
+    if ask == Ask::WhereDue && !is_due(pass) {
+        return Ok(None);
+    }
+    let reply = worker.ask(Who::Original, image, map_length)?;
+    if reply == Reply::Abort && must_answer(pass) {
+        // It may have wanted more memory or time than most images do.
+        return Worker::new(LARGE).ask(Who::Original, image, map_length).map(Some);
+    }
+    Ok(Some(reply))
 }
 
 /// The original comes to an end in the model's report, unless it reads a map chain again and again.
 fn must_answer(pass: &Pass) -> bool {
-    matches!(pass.answer, Answer::Reported(_)) && pass.notes.repeated_chain == 0
+    pass.reports() && pass.notes.repeated_chain == 0
 }
 
 /// No added refusal is met.
@@ -75,25 +77,58 @@ pub fn is_due(pass: &Pass) -> bool {
     !pass.refusal.is_some_and(|r| r.added())
 }
 
-fn original_parts(pass: &Pass, left: &[u8], original: &Reply) -> Option<String> {
+/// The bytes of the map that a pass with this answer writes: none after an early refusal, else one for each block.
+fn written(pass: &Pass) -> usize {
+    let untouched = pass.refusal.is_some_and(|r| r.number() <= LAST_UNTOUCHED);
+    if untouched {
+        0
+    } else {
+        pass.notes.count as usize
+    }
+}
+
+/// The first byte of a map that no pass with this answer may leave so: written where it is to be kept, not cleared
+/// after a refusal, or with bits that mean nothing.
+fn wrong_byte(pass: &Pass, fill: Fill, left: &[u8]) -> Option<usize> {
+    let (written, reports) = (written(pass), pass.reports());
+    left.iter().enumerate().position(|(i, &byte)| match (i < written, reports) {
+        (false, _) => byte != fill.byte(i),
+        (true, false) => byte != 0,
+        (true, true) => byte & !(OWNER | MARKED | POOL_USED) != 0,
+    })
+}
+
+/// The model itself, by what holds of every map, and with its second fill.
+fn model_breaks(image: &[u8], pass: &Pass, left: &[u8]) -> Option<Disagreement> {
+    let mut second = Fill::Zeroless.map(left.len());
+    let again = model::check(image, &mut second);
+    let cells = written(pass).min(left.len());
+    for (fill, map) in [(Fill::Listed, left), (Fill::Zeroless, &second)] {
+        if let Some(byte) = wrong_byte(pass, fill, map) {
+            return Some(Disagreement::WrongByte { party: Party::Model, byte, value: map[byte] });
+        }
+    }
+    let (numbers, numbers_again) = (pass.answer.numbers(), again.answer.numbers());
+    answers_part([Party::Model; 2], (&numbers, &left[..cells]), (&numbers_again, &second[..cells]))
+}
+
+fn original_parts(pass: &Pass, left: &[u8], original: Option<&Reply>) -> Option<Disagreement> {
     if !is_due(pass) {
         return None;
     }
-    match (original, &pass.answer) {
-        (Reply::Unreadable(line), _) => Some(format!("the original's lines can't be read: {line}")),
+    match (original?, &pass.answer) {
+        (Reply::Unreadable(line), _) => Some(Disagreement::Unreadable(Party::Original, line.clone())),
         (Reply::Answer(numbers, map), Answer::Reported(_)) => answers_part(
-            "the original and the model",
+            [Party::Original, Party::Model],
             (numbers, map),
-            (&pass.answer.numbers(), &left[..map.len().min(left.len())]),
+            (&pass.answer.numbers(), &left[..pass.notes.count as usize]),
         ),
-        (Reply::Answer(..), Answer::Refused(n)) => Some(format!("the original reports where the model refuses: {n}")),
-        (Reply::Error(message), Answer::Reported(_)) => {
-            Some(format!("the original errs where the model reports: {message}"))
-        }
+        (Reply::Answer(..), Answer::Refused(number)) => Some(Disagreement::OriginalReports { refusal: *number }),
+        (Reply::Error(message), Answer::Reported(_)) => Some(Disagreement::OriginalErrs(message.clone())),
         (Reply::Panic(message), _) if !pass.notes.chain_sum_overflowed && !may_panic(&pass.answer) => {
-            Some(format!("the original panics where the model meets no slice and no sum: {message}"))
+            Some(Disagreement::OriginalPanics(message.clone()))
         }
-        (Reply::Abort, _) if must_answer(pass) => Some("the original aborts where the model reports".into()),
+        (Reply::Abort, _) if must_answer(pass) => Some(Disagreement::NoAnswer(Party::Original, "aborts".into())),
         _ => None,
     }
 }
@@ -104,40 +139,88 @@ fn may_panic(answer: &Answer) -> bool {
     matches!(answer, Answer::Refused(number) if refusals.contains(number))
 }
 
-fn library_parts(pass: &Pass, left: &[u8], original: &Reply, library: &Reply) -> Option<String> {
-    match library {
-        Reply::NotRun => None,
-        Reply::Answer(numbers, map) => {
-            let beside_model =
-                answers_part("the library and the model", (numbers, map), (&pass.answer.numbers(), left));
-            beside_model.or_else(|| match original {
-                Reply::Answer(theirs, their_map) if is_due(pass) => {
-                    let ours = &map[..their_map.len().min(map.len())];
-                    answers_part("the library and the original", (numbers, ours), (theirs, their_map))
-                }
-                _ => None,
-            })
+/// The library beside model and original, with both fills of the map.
+fn library_parts(
+    worker: &mut Worker,
+    image: &[u8],
+    pass: &Pass,
+    left: &[u8],
+    original: Option<&Reply>,
+) -> io::Result<Option<Disagreement>> {
+    for fill in FILLS {
+        let (numbers, map) = match worker.ask(Who::Library(fill), image, left.len())? {
+            Reply::Answer(numbers, map) => (numbers, map),
+            Reply::Breach(what) => return Ok(Some(Disagreement::Breach(what))),
+            other => return Ok(Some(Disagreement::NoAnswer(Party::Library, format!("{other:?}")))),
+        };
+        let expected = refilled(pass, left, fill);
+        let beside_model =
+            answers_part([Party::Library, Party::Model], (&numbers, &map), (&pass.answer.numbers(), &expected));
+        let beside_original = || match original {
+            Some(Reply::Answer(theirs, their_map)) if is_due(pass) => {
+                let ours = &map[..their_map.len().min(map.len())];
+                answers_part([Party::Library, Party::Original], (&numbers, ours), (theirs, their_map))
+            }
+            _ => None,
+        };
+        let parting = beside_model.or_else(beside_original);
+        if parting.is_some() {
+            return Ok(parting);
         }
-        other => Some(format!("the library gives no answer: {other:?}")),
     }
+    Ok(None)
+}
+
+/// The map that a pass leaves of another fill: what it writes is the same.
+fn refilled(pass: &Pass, left: &[u8], fill: Fill) -> Vec<u8> {
+    let mut map = fill.map(left.len());
+    let cells = written(pass).min(left.len());
+    map[..cells].copy_from_slice(&left[..cells]);
+    map
 }
 
 /// Where two answers with their maps part.
-fn answers_part(who: &str, a: (&[u64], &[u8]), b: (&[u64], &[u8])) -> Option<String> {
-    match parting(a.0, b.0) {
-        // The refusals belong to the kind of a disagreement, other figures don't.
-        Some((0, x, y)) => return Some(format!("{who} part in the refusal, {x} and {y}")),
-        Some((i, x, y)) => return Some(format!("{who} part in figure {i}: {x} and {y}")),
-        None => {}
+fn answers_part(who: [Party; 2], a: (&[u64], &[u8]), b: (&[u64], &[u8])) -> Option<Disagreement> {
+    if a.0.len() != b.0.len() {
+        return Some(Disagreement::Numbers { who, lengths: [a.0.len(), b.0.len()] });
+    }
+    if let Some(place) = a.0.iter().zip(b.0).position(|(x, y)| x != y) {
+        return Some(Disagreement::Figure { who, place, values: [a.0[place], b.0[place]] });
     }
     if a.1.len() != b.1.len() {
-        return Some(format!("{who} part in their maps' lengths: {} and {}", a.1.len(), b.1.len()));
+        return Some(Disagreement::MapLength { who, lengths: [a.1.len(), b.1.len()] });
     }
     let block = a.1.iter().zip(b.1).position(|(x, y)| x != y)?;
-    Some(format!("{who} part in the map at block {block}: {:#04x} and {:#04x}", a.1[block], b.1[block]))
+    Some(Disagreement::MapByte { who, block, bytes: [a.1[block], b.1[block]] })
 }
 
-/// The kind of a disagreement, without what belongs to the image alone.
-pub fn kind(disagreement: &str) -> &str {
-    disagreement.split(':').next().unwrap_or(disagreement)
+#[cfg(test)]
+mod tests {
+    use super::*;
+    use crate::model::Notes;
+
+    fn refused(refusal: Refusal) -> Pass {
+        let notes = Notes { count: 2, ..Notes::default() };
+        Pass { answer: Answer::Refused(refusal.number()), refusal: Some(refusal), notes }
+    }
+
+    #[test]
+    fn a_map_is_kept_or_cleared_up_to_the_count() {
+        let (early, late) = (refused(Refusal::CountDiffers), refused(Refusal::Address));
+        assert_eq!(wrong_byte(&early, Fill::Zeroless, &[255, 254, 253]), None);
+        assert_eq!(wrong_byte(&early, Fill::Zeroless, &[0, 254, 253]), Some(0));
+        assert_eq!(wrong_byte(&late, Fill::Zeroless, &[0, 0, 253]), None);
+        assert_eq!(wrong_byte(&late, Fill::Zeroless, &[0, 254, 253]), Some(1));
+        assert_eq!(wrong_byte(&late, Fill::Zeroless, &[0, 0, 0]), Some(2));
+    }
+
+    #[test]
+    fn answers_part_in_lengths_too() {
+        let who = [Party::Original, Party::Model];
+        assert_eq!(answers_part(who, (&[0], &[1, 2]), (&[0], &[1, 2])), None);
+        let half = answers_part(who, (&[0], &[1]), (&[0], &[1, 2]));
+        assert_eq!(half, Some(Disagreement::MapLength { who, lengths: [1, 2] }));
+        let none = answers_part(who, (&[], &[]), (&[0], &[]));
+        assert_eq!(none, Some(Disagreement::Numbers { who, lengths: [0, 1] }));
+    }
 }

@@ -3,8 +3,20 @@
 //! `libinterface.a` has one C function, which takes the image, the block map and an array for the answer's numbers
 //! (interface/space_check.h). It is called in the worker process: a crash there is seen and counts as a disagreement.
 
+pub const LINKED: bool = cfg!(feature = "library");
+
 #[cfg(feature = "library")]
-pub fn check(image: &[u8], map: &mut [u8]) -> Option<Vec<u64>> {
+pub use linked::check;
+
+#[cfg(feature = "library")]
+mod linked {
+    use crate::answer::NUMBERS;
+    use crate::fill::Fill;
+
+    /// So many elements on each side of a buffer that nothing may write.
+    const GUARD: usize = 64;
+    const GUARD_BYTE: u8 = 0xa5;
+
     extern "C" {
         fn space_check(
             image: *const u8,
@@ -15,18 +27,36 @@ pub fn check(image: &[u8], map: &mut [u8]) -> Option<Vec<u64>> {
             figures_length: usize,
         );
     }
-    // Not the zeros that a number left out would be taken for.
-    let mut figures = vec![u64::MAX; crate::answer::NUMBERS];
-    let (numbers, room) = (figures.as_mut_ptr(), figures.len());
-    // SAFETY: each buffer is lent whole for the call, and the three don't overlap.
-    unsafe { space_check(image.as_ptr(), image.len(), map.as_mut_ptr(), map.len(), numbers, room) };
-    Some(figures)
-}
 
-/// Not linked.
-#[cfg(not(feature = "library"))]
-pub fn check(_image: &[u8], _map: &mut [u8]) -> Option<Vec<u64>> {
-    None
-}
+    /// The numbers and the map, or which rule of the call was broken.
+    pub fn check(image: &[u8], map_length: usize, fill: Fill) -> Result<(Vec<u64>, Vec<u8>), &'static str> {
+        let guard = u64::from_ne_bytes([GUARD_BYTE; 8]);
+        let copy = image.to_vec();
+        let mut map = guarded(GUARD_BYTE, &fill.map(map_length));
+        // Not the zeros that a number left out would be taken for.
+        let mut figures = guarded(guard, &[u64::MAX; NUMBERS]);
+        // SAFETY: each buffer is lent whole for the call, and the three don't overlap.
+        unsafe {
+            let (cells, numbers) = (map.as_mut_ptr().add(GUARD), figures.as_mut_ptr().add(GUARD));
+            space_check(image.as_ptr(), image.len(), cells, map_length, numbers, NUMBERS);
+        }
+        // The compiler may take a lent slice for unchanged: it is compared as if anything could have happened to it.
+        if std::hint::black_box(image) != copy {
+            return Err("the image is changed");
+        }
+        let map = unguarded(GUARD_BYTE, map).ok_or("bytes beside the map are written")?;
+        let figures = unguarded(guard, figures).ok_or("numbers beside the array are written")?;
+        Ok((figures, map))
+    }
 
-pub const LINKED: bool = cfg!(feature = "library");
+    fn guarded<T: Copy>(guard: T, content: &[T]) -> Vec<T> {
+        [&vec![guard; GUARD], content, &vec![guard; GUARD]].concat()
+    }
+
+    /// The content, where the guards are still there.
+    fn unguarded<T: Copy + PartialEq>(guard: T, buffer: Vec<T>) -> Option<Vec<T>> {
+        let content = GUARD..buffer.len() - GUARD;
+        let kept = buffer.iter().enumerate().all(|(i, &element)| content.contains(&i) || element == guard);
+        kept.then(|| buffer[content].to_vec())
+    }
+}

@@ -7,12 +7,10 @@
 
 use std::collections::HashMap;
 
+use crate::answer::{Answer, NUMBERS};
+use crate::judge::{is_due, Judgement};
 use crate::text::{from_hex, from_row, to_hex, to_row};
-
-/// The block map as it is handed in: byte i is i mod 251, so that an untouched byte shows.
-pub fn handed_in(length: usize) -> Vec<u8> {
-    (0..length).map(|i| (i % 251) as u8).collect()
-}
+use crate::worker::Reply;
 
 /// An image with the answer that is kept for it.
 #[derive(Clone, Debug, Default, PartialEq, Eq)]
@@ -22,9 +20,29 @@ pub struct Item {
     pub base: Option<String>,
     pub image: Vec<u8>,
     pub map_length: usize,
+    /// How the original ended; empty in lists of another origin.
     pub original: String,
     pub answer: Vec<u64>,
     pub left: Vec<u8>,
+}
+
+/// How the original ended, and whose the number is.
+pub fn ending(judgement: &Judgement) -> String {
+    let word = match judgement.original {
+        Some(Reply::Answer(..)) => "report",
+        Some(Reply::Error(_)) => "error",
+        Some(Reply::Panic(_)) => "panic",
+        Some(Reply::Abort) => "abort",
+        Some(Reply::Breach(_) | Reply::Unreadable(_)) | None => "nothing",
+    };
+    if !is_due(&judgement.pass) {
+        return format!("{word}, no reference: the number is the model's and added");
+    }
+    match (&judgement.original, &judgement.pass.answer) {
+        (Some(Reply::Answer(..)), _) => word.into(),
+        (_, Answer::Refused(_)) => format!("{word}, the number is the model's"),
+        (_, Answer::Reported(_)) => format!("{word}, no reference: the report is the model's"),
+    }
 }
 
 /// Unchanged bytes between two changed ones that are written all the same: a new line costs more.
@@ -65,88 +83,124 @@ pub fn write_item(out: &mut String, item: &Item, base: &[u8]) {
     out.push_str(&format!("answer {}\nleft {}\n", to_row(&item.answer), to_hex(&item.left)));
 }
 
-/// Reads items; a file without an `image` line holds one image.
+/// A line's number, its first word and the rest.
+type Line<'a> = (usize, &'a str, &'a str);
+type Bases = HashMap<String, Vec<u8>>;
+
+/// Reads items, at least one; a file without an `image` line holds one image.
 pub fn parse(text: &str) -> Result<Vec<Item>, String> {
-    let mut bases: HashMap<String, Vec<u8>> = HashMap::new();
-    let mut items: Vec<Item> = Vec::new();
-    let mut defining: Option<String> = None;
-    for (number, line) in (1..).zip(text.lines()) {
-        let (word, rest) = line.split_once(' ').unwrap_or((line, ""));
-        match word {
-            "" | "#" => {}
-            "define" => {
-                bases.insert(rest.into(), Vec::new());
-                defining = Some(rest.into());
+    let mut bases = Bases::new();
+    let mut items = Vec::new();
+    for group in groups(text) {
+        match group[0] {
+            (_, "define", name) => {
+                let bytes = image(&group[1..], &bases)?;
+                bases.insert(name.into(), bytes);
             }
-            "image" => {
-                defining = None;
-                items.push(Item { name: rest.into(), ..Item::default() });
-            }
-            _ => {
-                if defining.is_none() && items.is_empty() {
-                    items.push(Item::default());
-                }
-                let done = match &defining {
-                    Some(name) => bases.get_mut(name).and_then(|bytes| bytes_line(bytes, word, rest)),
-                    None => items.last_mut().and_then(|item| item_line(item, &bases, word, rest)),
-                };
-                done.ok_or_else(|| format!("line {number} can't be read: {word}"))?;
-            }
+            (_, "image", name) => items.push(item(name, &group[1..], &bases)?),
+            _ => items.push(item("", &group, &bases)?),
         }
+    }
+    if items.is_empty() {
+        return Err("there is no image in it".into());
     }
     Ok(items)
 }
 
-fn bytes_line(bytes: &mut Vec<u8>, word: &str, rest: &str) -> Option<()> {
-    match word {
-        "length" => bytes.resize(rest.parse().ok()?, 0),
-        "at" => {
-            let (at, hex) = rest.split_once(' ')?;
-            let (at, part) = (at.parse::<usize>().ok()?, from_hex(hex)?);
-            bytes.get_mut(at..at + part.len())?.copy_from_slice(&part);
+/// The lines of each item, its `define` or `image` first.
+fn groups(text: &str) -> Vec<Vec<Line<'_>>> {
+    let mut groups: Vec<Vec<Line>> = Vec::new();
+    for (number, line) in (1..).zip(text.lines()) {
+        let (word, rest) = line.split_once(' ').unwrap_or((line, ""));
+        if word.is_empty() || word.starts_with('#') {
+            continue;
         }
-        _ => return None,
+        match groups.last_mut() {
+            Some(group) if !["define", "image"].contains(&word) => group.push((number, word, rest)),
+            _ => groups.push(vec![(number, word, rest)]),
+        }
     }
+    groups
+}
+
+/// What stands behind a word that an item has once.
+fn one<'a>(group: &[Line<'a>], word: &str) -> Result<&'a str, String> {
+    let mut found = group.iter().filter(|line| line.1 == word);
+    match (found.next(), found.next()) {
+        (Some(line), None) => Ok(line.2),
+        (None, _) => Err(format!("the item at line {} has no `{word}`", group.first().map_or(0, |line| line.0))),
+        (_, Some(line)) => Err(format!("line {}: `{word}` a second time", line.0)),
+    }
+}
+
+fn image(group: &[Line], bases: &Bases) -> Result<Vec<u8>, String> {
+    let length = one(group, "length")?;
+    let length = length.parse().map_err(|_| format!("`{length}` is no length"))?;
+    let mut bytes = match one(group, "base") {
+        Ok(name) => bases.get(name).cloned().ok_or_else(|| format!("no base `{name}` is defined"))?,
+        Err(_) => Vec::new(),
+    };
+    bytes.resize(length, 0);
+    for (number, _, rest) in group.iter().filter(|line| line.1 == "at") {
+        store(&mut bytes, rest).ok_or_else(|| format!("line {number} can't be read, or isn't inside the image"))?;
+    }
+    Ok(bytes)
+}
+
+fn store(bytes: &mut [u8], rest: &str) -> Option<()> {
+    let (at, hex) = rest.split_once(' ')?;
+    let (at, part) = (at.parse::<usize>().ok()?, from_hex(hex)?);
+    bytes.get_mut(at..at.checked_add(part.len())?)?.copy_from_slice(&part);
     Some(())
 }
 
-fn item_line(item: &mut Item, bases: &HashMap<String, Vec<u8>>, word: &str, rest: &str) -> Option<()> {
-    match word {
-        "made" => item.made = rest.into(),
-        "base" => {
-            item.image = bases.get(rest)?.clone();
-            item.base = Some(rest.into());
-        }
-        "map" => item.map_length = rest.parse().ok()?,
-        "rust" => item.original = rest.into(),
-        "answer" => item.answer = from_row(rest)?,
-        "left" => item.left = from_hex(rest)?,
-        _ => return bytes_line(&mut item.image, word, rest),
+fn item(name: &str, group: &[Line], bases: &Bases) -> Result<Item, String> {
+    const WORDS: [&str; 8] = ["made", "base", "length", "at", "map", "rust", "answer", "left"];
+    if let Some((number, word, _)) = group.iter().find(|line| !WORDS.contains(&line.1)) {
+        return Err(format!("line {number} can't be read: {word}"));
     }
-    Some(())
+    let map_length = one(group, "map")?.parse().map_err(|_| format!("{name}: the map's length is no number"))?;
+    let answer = from_row(one(group, "answer")?).ok_or_else(|| format!("{name}: the answer isn't numbers"))?;
+    let left = from_hex(one(group, "left")?).ok_or_else(|| format!("{name}: the map isn't hexadecimal"))?;
+    if answer.len() != NUMBERS || left.len() != map_length {
+        return Err(format!("{name}: {} numbers, {} bytes of a map of {map_length}", answer.len(), left.len()));
+    }
+    Ok(Item {
+        name: name.into(),
+        made: one(group, "made").unwrap_or_default().into(),
+        base: one(group, "base").ok().map(String::from),
+        image: image(group, bases)?,
+        map_length,
+        original: one(group, "rust").unwrap_or_default().into(),
+        answer,
+        left,
+    })
 }
 
 #[cfg(test)]
 mod tests {
     use super::*;
 
-    #[test]
-    fn an_item_comes_back() {
-        let base = vec![1, 2, 3, 4];
-        let item = Item {
+    fn example() -> Item {
+        Item {
             name: "one".into(),
             made: "by hand".into(),
             base: Some("b".into()),
             image: vec![1, 2, 9, 4, 0, 0, 7],
             map_length: 3,
             original: "error".into(),
-            answer: vec![5, 0],
+            answer: vec![5; NUMBERS],
             left: vec![0, 1, 2],
-        };
+        }
+    }
+
+    #[test]
+    fn an_item_comes_back() {
+        let base = vec![1, 2, 3, 4];
         let mut text = String::from("# a comment\n");
         write_base(&mut text, "b", &base);
-        write_item(&mut text, &item, &base);
-        assert_eq!(parse(&text), Ok(vec![item]));
+        write_item(&mut text, &example(), &base);
+        assert_eq!(parse(&text), Ok(vec![example()]));
     }
 
     #[test]
@@ -154,7 +208,19 @@ mod tests {
         let (base, image) = (vec![1; 40], vec![1; 9]);
         let mut text = String::new();
         write_base(&mut text, "b", &base);
-        write_item(&mut text, &Item { base: Some("b".into()), image: image.clone(), ..Item::default() }, &base);
+        write_item(&mut text, &Item { image: image.clone(), ..example() }, &base);
         assert_eq!(parse(&text).unwrap()[0].image, image);
+    }
+
+    #[test]
+    fn what_is_missing_or_wrong_is_told() {
+        let mut text = String::new();
+        write_item(&mut text, &Item { base: None, ..example() }, &[]);
+        assert!(parse(&text).is_ok());
+        for (from, to) in [("length 7", ""), ("map 3", "map 4"), ("answer 5", "answer"), ("made", "base")] {
+            assert!(parse(&text.replacen(from, to, 1)).is_err(), "{from}");
+        }
+        assert!(parse("").is_err());
+        assert!(parse("define b\nlength 3\n").is_err());
     }
 }

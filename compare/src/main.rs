@@ -1,10 +1,14 @@
-//! Runs the original space check beside a model of its rules and, once linked, beside the proved library.
+//! Runs the original space check beside a model of its rules and, where linked, beside the proved library.
 
 mod answer;
+mod boundary;
 mod container;
 mod coverage;
 mod damage;
+mod disagreement;
+mod draft;
 mod fields;
+mod fill;
 mod fletcher;
 mod image;
 mod judge;
@@ -22,10 +26,12 @@ mod rng;
 mod role;
 mod run;
 mod sample;
+mod seeds;
 mod shape;
 mod shrink;
 mod survey;
 mod text;
+mod verify;
 mod worker;
 
 use std::ops::Range;
@@ -64,23 +70,18 @@ fn main() -> ExitCode {
 /// Whether all agree.
 fn command(words: &[&str]) -> io::Result<bool> {
     match words {
-        ["run", "--seeds", seeds] => Ok(run::run(range(seeds)?)? == 0),
+        ["run", "--seeds", seeds] => run::run(range(seeds)?),
         ["real"] => Ok(real::real(DAMAGED)? == 0),
         ["real", "--damaged", n] => Ok(real::real(number(n)?)? == 0),
         ["large"] => Ok(real::large(DAMAGED)? == 0),
         ["large", "--damaged", n] => Ok(real::large(number(n)?)? == 0),
         ["answers"] => answers(),
         ["answers", images @ ..] => originals(images),
-        ["verify"] => verify(&[LIST]),
-        ["verify", files @ ..] => verify(files),
+        ["verify"] => verify::verify(&[LIST]),
+        ["verify", files @ ..] => verify::verify(files),
         ["worker"] => worker::serve().map(|()| true),
         _ => Err(io::Error::other(USAGE)),
     }
-}
-
-/// An error with the file that it is about.
-fn at(path: &str, error: impl std::fmt::Display) -> io::Error {
-    io::Error::other(format!("{path}: {error}"))
 }
 
 fn number(text: &str) -> io::Result<u64> {
@@ -89,7 +90,11 @@ fn number(text: &str) -> io::Result<u64> {
 
 fn range(text: &str) -> io::Result<Range<u64>> {
     let (from, to) = text.split_once("..").ok_or_else(|| io::Error::other(format!("`{text}` is not A..B")))?;
-    Ok(number(from)?..number(to)?)
+    let range = number(from)?..number(to)?;
+    if range.is_empty() {
+        return Err(io::Error::other(format!("`{text}` has no seed")));
+    }
+    Ok(range)
 }
 
 fn answers() -> io::Result<bool> {
@@ -108,7 +113,7 @@ fn answers() -> io::Result<bool> {
 fn originals(images: &[&str]) -> io::Result<bool> {
     let mut worker = Worker::new(LARGE);
     for path in images {
-        let image = fs::read(path).map_err(|e| at(path, e))?;
+        let image = fs::read(path).map_err(|e| io::Error::other(format!("{path}: {e}")))?;
         let reply = worker.ask(Who::Original, &image, 0)?;
         match reply {
             Reply::Answer(numbers, map) => {
@@ -118,17 +123,4 @@ fn originals(images: &[&str]) -> io::Result<bool> {
         }
     }
     Ok(true)
-}
-
-fn verify(files: &[&str]) -> io::Result<bool> {
-    let (mut images, mut faults) = (0, Vec::new());
-    for path in files {
-        let text = fs::read_to_string(path).map_err(|e| at(path, e))?;
-        let items = list::parse(&text).map_err(|e| at(path, e))?;
-        images += items.len();
-        faults.extend(sample::replay(&items)?.into_iter().map(|fault| format!("{path}: {fault}")));
-    }
-    faults.iter().for_each(|fault| println!("{fault}"));
-    println!("{images} images replayed, {} faults", faults.len());
-    Ok(faults.is_empty())
 }

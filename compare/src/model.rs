@@ -20,11 +20,26 @@ use blocks::{need, Step};
 pub use checkpoint::Taken;
 use claims::Claims;
 use manager::Manager;
-use tree::ObjectMap;
+pub use manager::Ring;
+pub use tree::{Layout, WALK_LEVELS};
+use tree::{ObjectMap, Walked};
 
-/// What a pass met that costs the original more than an error.
+/// The highest block count.
+pub const HIGHEST_COUNT: u64 = 0xffff_ffff;
+
+/// What a pass met: what costs the original more than an error, and how near it came to the added refusals.
 #[derive(Clone, Copy, Default)]
 pub struct Notes {
+    /// The block count, once refusal 4 isn't given.
+    pub count: u64,
+    /// The image has exactly count × size bytes, the map exactly count.
+    pub image_exact: bool,
+    pub map_exact: bool,
+    /// The descriptor area ends at the count.
+    pub area_ends_at_count: bool,
+    /// An entry of the pool queue ends at the count.
+    pub queued_to_count: bool,
+    pub walked: Walked,
     /// A superblock's map chain failed to load by an overflowing sum, on which the original panics.
     pub chain_sum_overflowed: bool,
     /// The length of a chain that came round its ring without an end: the original reads all its blocks.
@@ -38,6 +53,12 @@ pub struct Pass {
     pub answer: Answer,
     pub refusal: Option<Refusal>,
     pub notes: Notes,
+}
+
+impl Pass {
+    pub fn reports(&self) -> bool {
+        self.refusal.is_none()
+    }
 }
 
 /// The answer on an image. The map ends as found after refusals 1 to 11, else with one byte set for each block.
@@ -63,7 +84,7 @@ pub fn check(image: &[u8], map: &mut [u8]) -> Pass {
 
 /// Refusals 1 to 11.
 pub fn open<'a>(image: &'a [u8], room: usize, notes: &mut Notes) -> Step<(Blocks<'a>, Taken<'a>)> {
-    let (blocks, area) = geometry(image, room)?;
+    let (blocks, area) = geometry(image, room, notes)?;
     let taken = checkpoint::take(&blocks, &area, notes)?;
     let features = superblock::INCOMPATIBLE.of(taken.superblock);
     need(features & superblock::REFUSED_FEATURES == 0, Refusal::Features)?;
@@ -72,19 +93,23 @@ pub fn open<'a>(image: &'a [u8], room: usize, notes: &mut Notes) -> Step<(Blocks
 }
 
 /// Refusals 1 to 8: what block 0 says, and the descriptor area that it names.
-fn geometry(image: &[u8], room: usize) -> Step<(Blocks<'_>, checkpoint::Area)> {
+fn geometry<'a>(image: &'a [u8], room: usize, notes: &mut Notes) -> Step<(Blocks<'a>, checkpoint::Area)> {
     need(image.len() >= 4096, Refusal::ShortImage)?;
     need(superblock::MAGIC.of(image) == superblock::NXSB, Refusal::NoMagic)?;
     let size = superblock::BLOCK_SIZE.of(image);
     need(size.is_power_of_two() && (4096..=65536).contains(&size), Refusal::BlockSize)?;
     let count = superblock::BLOCK_COUNT.of(image);
-    need((1..=0xffff_ffff).contains(&count), Refusal::BlockCount)?;
+    need((1..=HIGHEST_COUNT).contains(&count), Refusal::BlockCount)?;
+    notes.count = count;
     need(count * size <= image.len() as u64, Refusal::ImageBelowCount)?;
     need(count <= room as u64, Refusal::MapBelowCount)?;
     let ring = superblock::DESCRIPTOR_BLOCKS.of(image);
     need(ring < 0x8000_0000, Refusal::DescriptorLength)?;
     let base = superblock::DESCRIPTOR_BASE.of(image);
     need(base.checked_add(ring).is_some_and(|end| end <= count), Refusal::DescriptorArea)?;
+    notes.image_exact = count * size == image.len() as u64;
+    notes.map_exact = count == room as u64;
+    notes.area_ends_at_count = base + ring == count;
     Ok((Blocks { image, size: size as usize, count }, checkpoint::Area { base, ring }))
 }
 
@@ -93,14 +118,15 @@ fn pass(blocks: &Blocks, taken: &Taken, cells: &mut [u8], notes: &mut Notes) -> 
     let objects = ObjectMap::load(blocks, superblock::OBJECT_MAP.of(taken.superblock))?;
     let manager = Manager::load(blocks, taken, notes)?;
     let pool = Pool::load(blocks, &manager)?;
-    let mut audit = Audit { pool: &pool, cells, report: Report::default() };
+    let mut audit = Audit { pool: &pool, cells, report: Report::default(), queued_to_count: false };
     audit.chunk_infos(blocks, &manager)?;
     audit.queue(blocks, taken, manager.field(m::POOL_QUEUE))?;
+    notes.queued_to_count = audit.queued_to_count;
     let mut report = audit.report;
     report.pool_unused = pool.unused(cells)?;
     let mut claims = Claims { cells, report: &mut report };
     claims.areas(taken.superblock, &manager)?;
-    claims.object_map(blocks, &objects)?;
+    notes.walked = claims.object_map(blocks, &objects)?;
     claims.queue(blocks, taken, manager.field(m::MAIN_QUEUE))?;
     report.xid = object::XID.of(taken.superblock);
     report.device_free = manager.field(m::FREE_COUNT);

@@ -43,10 +43,11 @@ pub fn run(image: Vec<u8>) -> Ended {
         Err(cause) => return Ended::Panic(message_of(cause.as_ref())),
     };
     let Caught { lines, cells } = take_caught();
-    match (Lines::new(&lines).report(verdict), cells) {
-        (Ok(report), Some(cells)) => Ended::Report(Box::new(report), block_map(&cells)),
-        (Ok(_), None) => Ended::Unreadable("no block map was handed out".into()),
-        (Err(line), _) => Ended::Unreadable(line),
+    let report = Lines::new(&lines).report(verdict);
+    let map = cells.ok_or("no block map was handed out".into()).and_then(|cells| block_map(&cells));
+    match (report, map) {
+        (Ok(report), Ok(map)) => Ended::Report(Box::new(report), map),
+        (Err(what), _) | (_, Err(what)) => Ended::Unreadable(what),
     }
 }
 
@@ -55,19 +56,24 @@ fn message_of(cause: &(dyn Any + Send)) -> String {
     text.unwrap_or("no message").to_string()
 }
 
-fn block_map(cells: &Cells) -> Vec<u8> {
-    let number: Vec<u8> = cells.kinds.iter().map(|name| kind_number(name).unwrap_or(0) as u8).collect();
-    (0u64..)
-        .zip(cells.owner.iter().zip(&cells.marked))
-        .map(|(block, (&owner, &marked))| {
-            let used = if cells.pool_used.contains(&block) { POOL_USED } else { 0 };
-            number[usize::from(owner)] | used | if marked { MARKED } else { 0 }
-        })
-        .collect()
+fn block_map(cells: &Cells) -> Read<Vec<u8>> {
+    if cells.owner.len() != cells.marked.len() {
+        return Err(format!("{} owners and {} marks", cells.owner.len(), cells.marked.len()));
+    }
+    let numbers = cells.kinds.iter().map(|name| owner_number(name)).collect::<Read<Vec<u8>>>()?;
+    let cell = |(block, (&owner, &marked)): (u64, (&u8, &bool))| {
+        let used = if cells.pool_used.contains(&block) { POOL_USED } else { 0 };
+        numbers[usize::from(owner)] | used | if marked { MARKED } else { 0 }
+    };
+    Ok((0u64..).zip(cells.owner.iter().zip(&cells.marked)).map(cell).collect())
 }
 
-fn kind_number(name: &str) -> Option<u64> {
-    (1..).zip(KINDS).find(|(_, kind)| *kind == name).map(|(number, _)| number)
+/// The number of a kind as the map has it: the empty name, which the original keeps first, stands for no owner.
+fn owner_number(name: &str) -> Read<u8> {
+    if name.is_empty() {
+        return Ok(0);
+    }
+    kind(name).map(|number| number as u8)
 }
 
 /// Problem lines, by the problem's kind from 1.
@@ -203,7 +209,8 @@ fn hex(part: &str) -> Read<u64> {
 }
 
 fn kind(name: &str) -> Read<u64> {
-    kind_number(name).ok_or_else(|| format!("no kind: {name}"))
+    let found = (1..).zip(KINDS).find(|(_, kind)| *kind == name).map(|(number, _)| number);
+    found.ok_or_else(|| format!("no kind: {name}"))
 }
 
 #[cfg(test)]
@@ -219,6 +226,13 @@ mod tests {
             "volume superblock"
         );
         assert_eq!(matched("end", "end of it"), None);
+    }
+
+    #[test]
+    fn an_unknown_kind_is_no_owner() {
+        let cells = |kinds| Cells { marked: vec![true], owner: vec![1], kinds, pool_used: Default::default() };
+        assert_eq!(block_map(&cells(vec!["", KINDS[4]])), Ok(vec![5 | MARKED]));
+        assert!(block_map(&cells(vec!["", "file data"])).is_err());
     }
 
     #[test]

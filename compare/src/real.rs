@@ -8,9 +8,10 @@ use std::process::{Command, Stdio};
 use std::time::Instant;
 
 use crate::coverage::Coverage;
-use crate::image::{Base, Image};
+use crate::image::Image;
 use crate::judge::{judge, Ask};
 use crate::run::compared;
+use crate::seeds::Base;
 use crate::survey::Survey;
 use crate::text::to_row;
 use crate::worker::{Worker, LARGE};
@@ -64,7 +65,7 @@ fn run(bases: impl Iterator<Item = io::Result<(String, Base)>>, damaged: u64) ->
 
 fn agrees(worker: &mut Worker, name: &str, image: &Image, coverage: &mut Coverage) -> io::Result<bool> {
     let judgement = judge(worker, &image.bytes, image.map_length, Ask::WhereDue)?;
-    coverage.add(&judgement, &image.ways, &image.features);
+    coverage.add(&judgement, image);
     if image.made.is_empty() {
         println!("{name}, undamaged: {}", to_row(&judgement.pass.answer.numbers()));
     }

@@ -31,6 +31,9 @@ pub enum Refusal {
 /// The highest number.
 pub const LAST: u64 = 22;
 
+/// Up to this refusal the block map is as handed in.
+pub const LAST_UNTOUCHED: u64 = 11;
+
 impl Refusal {
     pub fn number(self) -> u64 {
         match self {

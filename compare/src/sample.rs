@@ -1,17 +1,23 @@
-//! Chooses the images of the fixed list, and replays it.
+//! Chooses the images of the fixed list.
 
 use std::collections::{BTreeMap, BTreeSet};
 use std::io;
 
+use crate::boundary::{Boundary, BOUNDARIES};
 use crate::coverage::{rows, wanted, Row};
-use crate::image::{Builder, Image, IMAGES_PER_SHAPE};
-use crate::judge::{judge, Ask, Judgement};
-use crate::list::{write_base, write_item, Item};
+use crate::fill::Fill;
+use crate::image::Image;
+use crate::judge::{is_due, judge, Ask, Judgement};
+use crate::list::{ending, write_base, write_item, Item};
 use crate::model;
+use crate::refusal::Refusal;
+use crate::seeds::{Base, Builder};
 use crate::worker::{Reply, Worker, SMALL};
 
 /// The seeds that are looked through.
 const SEEDS: u64 = 20_000;
+/// The containers in which a boundary is looked for.
+const CONTAINERS: u64 = 500;
 /// Images of the list have at most so many bytes, where one can be.
 const LARGEST: usize = 65_536;
 /// So many ways to each refusal, and so many images for each other row.
@@ -60,13 +66,6 @@ impl Choice {
     }
 }
 
-/// A judgement by the model alone, which is enough to choose by.
-fn modelled(image: &Image) -> Judgement {
-    let mut left = crate::list::handed_in(image.map_length);
-    let pass = model::check(&image.bytes, &mut left);
-    Judgement { pass, left, original: Reply::NotRun, disagreement: None }
-}
-
 /// Seeds of small images first; then, for rows that they don't reach, of larger ones.
 fn chosen() -> BTreeSet<u64> {
     let mut choice = Choice::default();
@@ -79,7 +78,8 @@ fn chosen() -> BTreeSet<u64> {
                 continue;
             }
             let image = builder.image(seed);
-            let found = rows(&modelled(&image), &image.ways, &image.features);
+            let pass = model::check(&image.bytes, &mut Fill::Listed.map(image.map_length));
+            let found = rows(&pass, &image);
             let unreached = found.iter().any(|row| !choice.seen.contains_key(row));
             if image.bytes.len() <= largest && (unreached || !only_unreached) && choice.wants(&found, &image.ways) {
                 seeds.insert(seed);
@@ -89,65 +89,86 @@ fn chosen() -> BTreeSet<u64> {
     seeds
 }
 
+/// The list under way.
+struct List {
+    worker: Worker,
+    text: String,
+    /// Numbers of the containers that are defined.
+    defined: BTreeSet<u64>,
+    reached: BTreeSet<Row>,
+}
+
+impl List {
+    fn judge(&mut self, image: &Image) -> io::Result<Judgement> {
+        judge(&mut self.worker, &image.bytes, image.map_length, Ask::Always)
+    }
+
+    fn write(&mut self, name: String, base: &Base, image: Image, judgement: &Judgement) {
+        self.reached.extend(rows(&judgement.pass, &image));
+        let base_name = format!("shape-{}", base.number);
+        if self.defined.insert(base.number) {
+            write_base(&mut self.text, &base_name, &base.bytes);
+        }
+        let item = Item {
+            name,
+            made: format!("container {}, {}", base.number, image.story()),
+            base: Some(base_name),
+            image: image.bytes,
+            map_length: image.map_length,
+            original: ending(judgement),
+            answer: judgement.pass.answer.numbers(),
+            left: judgement.left.clone(),
+        };
+        write_item(&mut self.text, &item, &base.bytes);
+    }
+
+    /// Both sides of a boundary, in the first small container on which the near side is the original's.
+    fn write_boundary(&mut self, boundary: &Boundary) -> io::Result<bool> {
+        for base in (0..CONTAINERS).map(Base::build).filter(|base| base.bytes.len() <= LARGEST) {
+            let Some([near, far]) = boundary.images(&base) else { continue };
+            let judgements = [self.judge(&near)?, self.judge(&far)?];
+            if judgements.iter().all(|j| j.disagreement.is_none()) && shows(boundary, &judgements) {
+                let name = format!("boundary-{}-{}", boundary.refusal.number(), boundary.name.replace(' ', "-"));
+                let [near_judged, far_judged] = judgements;
+                self.write(format!("{name}-near"), &base, near, &near_judged);
+                self.write(format!("{name}-far"), &base, far, &far_judged);
+                return Ok(true);
+            }
+        }
+        Ok(false)
+    }
+}
+
+/// The near side has an answer of the original, a report where there can be one, and the far side the refusal.
+fn shows(boundary: &Boundary, [near, far]: &[Judgement; 2]) -> bool {
+    let answered = match boundary.refusal {
+        // A container of one block has no room for an object map, and one of 2^32 - 1 needs 16 TiB.
+        Refusal::BlockCount => !matches!(near.pass.refusal, None | Some(Refusal::BlockCount)),
+        _ => is_due(&near.pass) && matches!(near.original, Some(Reply::Answer(..))),
+    };
+    answered && far.pass.refusal == Some(boundary.refusal)
+}
+
 /// The fixed list as text; an error where the original and the model part on one of its images.
 pub fn make() -> io::Result<Result<String, String>> {
-    let mut worker = Worker::new(SMALL);
+    let mut list =
+        List { worker: Worker::new(SMALL), text: HEADER.into(), defined: BTreeSet::new(), reached: BTreeSet::new() };
     let mut builder = Builder::default();
-    let mut text = String::from(HEADER);
-    let mut base_named = None;
-    let mut reached = BTreeSet::new();
     for seed in chosen() {
         let image = builder.image(seed);
-        let judgement = judge(&mut worker, &image.bytes, image.map_length, Ask::Always)?;
+        let judgement = list.judge(&image)?;
         if let Some(what) = judgement.disagreement {
             return Ok(Err(format!("seed {seed}: {what}")));
         }
-        reached.extend(rows(&judgement, &image.ways, &image.features));
-        let base = builder.base(seed);
-        let name = format!("shape-{}", base.number);
-        if base_named != Some(base.number) {
-            write_base(&mut text, &name, &base.bytes);
-            base_named = Some(base.number);
-        }
-        write_item(&mut text, &item(seed, &name, image, &judgement), &base.bytes);
+        list.write(format!("seed-{seed}"), builder.base(seed), image, &judgement);
     }
-    let missing: Vec<String> = wanted().iter().filter(|row| !reached.contains(row)).map(Row::to_string).collect();
-    Ok(if missing.is_empty() { Ok(text) } else { Err(format!("no image for: {}", missing.join("; "))) })
-}
-
-fn item(seed: u64, base: &str, image: Image, judgement: &Judgement) -> Item {
-    Item {
-        name: format!("seed-{seed}"),
-        made: format!("container {}, {}", seed / IMAGES_PER_SHAPE, image.story()),
-        base: Some(base.into()),
-        image: image.bytes,
-        map_length: image.map_length,
-        original: judgement.ending(),
-        answer: judgement.pass.answer.numbers(),
-        left: judgement.left.clone(),
+    for boundary in BOUNDARIES {
+        if !list.write_boundary(boundary)? {
+            return Ok(Err(format!("no container shows the boundary: {}", boundary.name)));
+        }
     }
-}
-
-/// Replays items: the model must give the kept answer and map, the original must end as kept and not disagree.
-/// Items of another origin don't say how the original ended.
-pub fn replay(items: &[Item]) -> io::Result<Vec<String>> {
-    let mut worker = Worker::new(SMALL);
-    let mut faults = Vec::new();
-    for item in items {
-        let judgement = judge(&mut worker, &item.image, item.map_length, Ask::Always)?;
-        let mut fault = |what: String| faults.push(format!("{}: {what}", item.name));
-        if judgement.pass.answer.numbers() != item.answer {
-            fault("the model's answer is another".into());
-        }
-        if judgement.left != item.left {
-            fault("the model leaves another map".into());
-        }
-        if !item.original.is_empty() && judgement.ending() != item.original {
-            fault(format!("the original ended with {}", judgement.ending()));
-        }
-        judgement.disagreement.into_iter().for_each(&mut fault);
-    }
-    Ok(faults)
+    let missing: Vec<String> = wanted().iter().filter(|row| !list.reached.contains(row)).map(Row::to_string).collect();
+    Ok(if missing.is_empty() { Ok(list.text) } else { Err(format!("no image for: {}", missing.join("; "))) })
 }
 
 #[cfg(test)]
@@ -156,7 +177,7 @@ mod tests {
     fn the_fixed_list_is_the_models() {
         let text = include_str!("../answers/list.txt");
         for item in crate::list::parse(text).unwrap() {
-            let mut left = crate::list::handed_in(item.map_length);
+            let mut left = crate::fill::Fill::Listed.map(item.map_length);
             let pass = crate::model::check(&item.image, &mut left);
             assert_eq!((pass.answer.numbers(), left), (item.answer, item.left), "{}", item.name);
         }

@@ -21,6 +21,10 @@ pub struct Shape {
     pub descriptor_slack: u64,
     pub manager_blocks: u64,
     pub data_slack: u64,
+    /// The data area's length has its top bit set, which doesn't count.
+    pub data_top_bit: bool,
+    /// Managers are mapped so many times the data ring further on, which comes to the same block.
+    pub turns: u64,
     pub bitmap_slots: u64,
     pub bitmap_slack: u64,
     /// The pool stands last and its count reaches past the container.
@@ -112,6 +116,8 @@ impl Shape {
             descriptor_slack: rng.below(most),
             manager_blocks: rng.between(1, manager_most),
             data_slack: rng.below(most),
+            data_top_bit: rng.chance(15),
+            turns: if rng.chance(15) { rng.between(1, 3) } else { 0 },
             bitmap_slots: rng.between(1, slots_most),
             bitmap_slack: rng.below(most),
             pool_reaches_out: rng.chance(10),

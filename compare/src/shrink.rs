@@ -2,7 +2,8 @@
 
 use std::io;
 
-use crate::judge::{judge, kind, Ask};
+use crate::disagreement::Disagreement;
+use crate::judge::{judge, Ask};
 use crate::list::patches;
 use crate::worker::Worker;
 
@@ -10,13 +11,13 @@ pub struct Shrinker<'a> {
     pub worker: &'a mut Worker,
     pub map_length: usize,
     /// The disagreement to keep.
-    pub what: String,
+    pub what: Disagreement,
 }
 
 impl Shrinker<'_> {
     fn stays(&mut self, image: &[u8]) -> io::Result<bool> {
         let found = judge(self.worker, image, self.map_length, Ask::WhereDue)?.disagreement;
-        Ok(found.is_some_and(|f| kind(&f) == kind(&self.what)))
+        Ok(found.is_some_and(|found| found.is_like(&self.what)))
     }
 
     /// Undoes damage piece by piece, then clears blocks, then cuts the end.

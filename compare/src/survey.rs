@@ -3,7 +3,7 @@
 //! The container is a sound one, built here or by mkapfs; what a survey can't follow it leaves out.
 
 use crate::fields::*;
-use crate::model::{self, Blocks, Notes, Taken};
+use crate::model::{self, Blocks, Layout, Notes, Ring, Taken};
 pub use crate::role::Role;
 
 #[derive(Clone, Debug)]
@@ -114,22 +114,30 @@ impl Surveyor<'_> {
     }
 
     /// The manager's blocks around the data ring, and its length.
-    fn manager_place(&self) -> Option<(Vec<u64>, usize)> {
+    fn manager_place(&mut self) -> Option<(Vec<u64>, usize)> {
         let sb = self.taken.superblock;
-        let mapping = self.taken.lookup(superblock::MANAGER_ID.of(sb))?;
-        let (base, ring) = (superblock::DATA_BASE.of(sb), superblock::DATA_BLOCKS.of(sb));
-        let first = mapping.address.checked_sub(base)?;
+        let (ring, id) = (Ring::of(sb), superblock::MANAGER_ID.of(sb));
+        let mapping = self.taken.lookup(id)?;
         let count = mapping.size.div_ceil(self.blocks.size as u64);
-        Some(((0..count).map(|i| base + (first + i) % ring).collect(), mapping.size as usize))
+        let blocks = (0..count).map(|i| ring.block(mapping.address, i).ok()).collect::<Option<Vec<u64>>>()?;
+        let (first, length) = (mapping.address, mapping.size as usize);
+        self.feature(superblock::DATA_BLOCKS.of(sb) != ring.blocks, "data length with its top bit");
+        self.feature(blocks.first() != Some(&first), "manager mapped beyond its ring");
+        self.feature(self.mapped_twice(id), "manager mapped twice");
+        Some((blocks, length))
+    }
+
+    fn mapped_twice(&self, id: u64) -> bool {
+        self.taken.map.iter().filter(|m| m.id == id).count() > 1
     }
 
     fn manager(&mut self) -> Option<()> {
         let (blocks, length) = self.manager_place()?;
         let bytes = blocks.iter().map(|&a| self.blocks.raw(a).ok()).collect::<Option<Vec<_>>>()?.concat();
         let indices =
-            listed(&bytes, "bitmap index", manager::INDEX_OFFSET, manager::BITMAP_SLOTS, manager::INDEX_WIDTH);
+            listed(&bytes, manager::INDEX, manager::INDEX_OFFSET, manager::BITMAP_SLOTS, manager::INDEX_WIDTH);
         let (offset, count) = (manager::CHUNK_INFO_OFFSET, manager::CHUNK_INFO_COUNT);
-        let infos = listed(&bytes, "chunk-info address", offset, count, manager::ADDRESS_WIDTH);
+        let infos = listed(&bytes, manager::CHUNK_INFO_ADDRESS, offset, count, manager::ADDRESS_WIDTH);
         self.feature(blocks.len() > 1, "manager over several blocks");
         self.feature(blocks.windows(2).any(|w| w[1] < w[0]), "manager wraps");
         self.feature(indices.len() > 1, "pool bitmap of several blocks");
@@ -176,19 +184,20 @@ impl Surveyor<'_> {
         let Some(root) = self.taken.lookup(id).map(|m| m.address) else { return };
         if let Some(levels) = self.tree(role, root) {
             self.feature(true, format!("queue of {levels} level(s)"));
+            self.feature(self.mapped_twice(id), "queue mapped twice");
         }
     }
 
     /// A node and those below it; gives the number of levels.
     fn tree(&mut self, role: Role, address: u64) -> Option<u64> {
         let bytes = self.blocks.raw(address).ok()?;
-        let NodeFields { mut fields, children } = NodeFields::of(role, bytes);
-        let flags = node::FLAGS.of(bytes);
-        if flags & node::ROOT != 0 {
-            fields.extend(description::ALL.iter().map(|f| f.shifted(bytes.len() - description::LENGTH)));
+        let layout = Layout::of(bytes);
+        let NodeFields { mut fields, children } = NodeFields::of(role, bytes, &layout);
+        if layout.is(node::ROOT) {
+            fields.extend(description::ALL.iter().map(|f| f.shifted(layout.value_end)));
         }
-        self.feature(flags & node::FIXED != 0, "node of fixed sizes");
-        self.feature(flags & node::FIXED == 0, "node of variable sizes");
+        self.feature(layout.is(node::FIXED), "node of fixed sizes");
+        self.feature(!layout.is(node::FIXED), "node of variable sizes");
         self.node_features(role, bytes, &fields);
         self.add(role, address, fields);
         let mut below = 0;
@@ -218,26 +227,18 @@ struct NodeFields {
 }
 
 impl NodeFields {
-    fn of(role: Role, bytes: &[u8]) -> Self {
+    fn of(role: Role, bytes: &[u8], layout: &Layout) -> Self {
         let mut out = NodeFields { fields: [&[object::TYPE], node::ALL].concat(), children: Vec::new() };
-        let flags = node::FLAGS.of(bytes);
-        let leaf = flags & node::LEAF != 0;
-        let table = node::DATA + node::TABLE_OFFSET.of(bytes) as usize;
-        let key_area = table + node::TABLE_LENGTH.of(bytes) as usize;
-        let value_end = bytes.len() - if flags & node::ROOT != 0 { description::LENGTH } else { 0 };
-        let (slots, slot) = if flags & node::FIXED != 0 {
-            (fixed_slot::ALL, fixed_slot::LENGTH)
-        } else {
-            (variable_slot::ALL, variable_slot::LENGTH)
-        };
-        for i in 0..node::KEYS.of(bytes) as usize {
-            let slots: Vec<Field> = repeated(slots, table, i, slot).collect();
+        let (slots, width) = layout.slot();
+        for i in 0..layout.keys as usize {
+            let slots: Vec<Field> = repeated(slots, layout.table, i, width).collect();
             // Both kinds of slot have these, by the same names.
             let part = |name: &str| slots.iter().find(|f| f.name == name).map(|f| f.of(bytes) as usize);
-            let key = key_area + part(fixed_slot::KEY.name).unwrap_or(0);
-            let value = part(fixed_slot::VALUE.name).filter(|&v| v as u64 != node::GHOST).map(|v| value_end - v);
+            let key = layout.key_area + part(fixed_slot::KEY.name).unwrap_or(0);
+            let value = part(fixed_slot::VALUE.name).filter(|&v| v as u64 != node::GHOST);
+            let value = value.map(|v| layout.value_end - v);
             out.fields.extend(&slots);
-            out.contents(role, bytes, leaf, key, value);
+            out.contents(role, bytes, layout.is(node::LEAF), key, value);
         }
         out
     }

@@ -10,9 +10,11 @@ use std::sync::mpsc::{channel, Receiver};
 use std::time::Duration;
 
 use crate::answer::Answer;
+use crate::fill::Fill;
+#[cfg(feature = "library")]
+use crate::library;
 use crate::oracle::{self, Ended};
 use crate::text::{from_hex, from_row, to_hex, to_row};
-use crate::{library, list};
 
 /// What was asked about an image came to this.
 #[derive(Clone, Debug, PartialEq, Eq)]
@@ -23,15 +25,31 @@ pub enum Reply {
     Panic(String),
     /// The worker ran out of memory or time.
     Abort,
-    /// The original wasn't asked, or the library isn't linked.
-    NotRun,
+    /// The library wrote what it may not write.
+    Breach(String),
     Unreadable(String),
 }
 
 #[derive(Clone, Copy, PartialEq, Eq)]
 pub enum Who {
     Original,
-    Library,
+    /// The library, with a map handed in.
+    Library(Fill),
+}
+
+// The words of a request.
+const ORIGINAL: &str = "original";
+const LIBRARY: &str = "library";
+const LIBRARY_ZEROLESS: &str = "library-zeroless";
+
+impl Who {
+    fn word(self) -> &'static str {
+        match self {
+            Who::Original => ORIGINAL,
+            Who::Library(Fill::Listed) => LIBRARY,
+            Who::Library(Fill::Zeroless) => LIBRARY_ZEROLESS,
+        }
+    }
 }
 
 /// What a worker may use.
@@ -71,8 +89,7 @@ impl Worker {
             Some(running) => running,
             None => start(self.limits)?,
         };
-        let word = if who == Who::Original { "original" } else { "library" };
-        let sent = writeln!(running.input, "{word} {} {map_length}", image.len())
+        let sent = writeln!(running.input, "{} {} {map_length}", who.word(), image.len())
             .and_then(|()| running.input.write_all(image))
             .and_then(|()| running.input.flush());
         let line = sent.ok().and_then(|()| running.lines.recv_timeout(Duration::from_secs(self.limits.seconds)).ok());
@@ -141,8 +158,8 @@ fn parse(line: &str) -> Reply {
         },
         "error" => Reply::Error(rest.into()),
         "panic" => Reply::Panic(rest.into()),
-        "unlinked" => Reply::NotRun,
-        _ => Reply::Unreadable(rest.into()),
+        "breach" => Reply::Breach(rest.into()),
+        _ => Reply::Unreadable(line.into()),
     }
 }
 
@@ -155,15 +172,31 @@ pub fn serve() -> io::Result<()> {
     let mut request = String::new();
     while input.read_line(&mut request)? > 0 {
         let words: Vec<&str> = request.split_whitespace().collect();
-        let number = |i: usize| words.get(i).and_then(|w| w.parse::<usize>().ok()).unwrap_or(0);
-        let mut image = vec![0; number(1)];
+        let number = |i: usize| words.get(i).and_then(|w| w.parse::<usize>().ok());
+        let (Some(length), Some(map_length)) = (number(1), number(2)) else {
+            return Err(io::Error::other(format!("no request: {request}")));
+        };
+        let mut image = vec![0; length];
         input.read_exact(&mut image)?;
-        let reply = if words[0] == "library" { ask_library(&image, number(2)) } else { ask_original(image) };
+        let reply = answer_to(words[0], image, map_length);
         writeln!(output, "{}", reply.replace('\n', " "))?;
         output.flush()?;
         request.clear();
     }
     Ok(())
+}
+
+/// The map's length is the library's alone: the original takes none.
+#[cfg_attr(not(feature = "library"), allow(unused_variables))]
+fn answer_to(word: &str, image: Vec<u8>, map_length: usize) -> String {
+    match word {
+        ORIGINAL => ask_original(image),
+        #[cfg(feature = "library")]
+        LIBRARY => ask_library(&image, map_length, Fill::Listed),
+        #[cfg(feature = "library")]
+        LIBRARY_ZEROLESS => ask_library(&image, map_length, Fill::Zeroless),
+        other => format!("unreadable\tno such request: {other}"),
+    }
 }
 
 fn ask_original(image: Vec<u8>) -> String {
@@ -177,10 +210,10 @@ fn ask_original(image: Vec<u8>) -> String {
     }
 }
 
-fn ask_library(image: &[u8], map_length: usize) -> String {
-    let mut map = list::handed_in(map_length);
-    match library::check(image, &mut map) {
-        Some(numbers) => format!("answer\t{}\t{}", to_row(&numbers), to_hex(&map)),
-        None => "unlinked".into(),
+#[cfg(feature = "library")]
+fn ask_library(image: &[u8], map_length: usize, fill: Fill) -> String {
+    match library::check(image, map_length, fill) {
+        Ok((numbers, map)) => format!("answer\t{}\t{}", to_row(&numbers), to_hex(&map)),
+        Err(what) => format!("breach\t{what}"),
     }
 }

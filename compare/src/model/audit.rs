@@ -90,6 +90,8 @@ pub struct Audit<'p, 'c> {
     pub pool: &'p Pool<'p>,
     pub cells: &'c mut [u8],
     pub report: Report,
+    /// An entry of the pool queue ended at the count.
+    pub queued_to_count: bool,
 }
 
 impl Audit<'_, '_> {
@@ -141,7 +143,9 @@ impl Audit<'_, '_> {
         scan_queue(blocks, taken, root, &mut |entry| {
             let (address, count) = queued(&entry)?;
             let end = address.checked_add(count).filter(|&end| end <= blocks.count);
-            for block in address..end.ok_or(Refusal::QueuedPastCount)? {
+            let end = end.ok_or(Refusal::QueuedPastCount)?;
+            self.queued_to_count |= end == blocks.count;
+            for block in address..end {
                 self.problem_if(!self.pool.marks(block), QUEUED_UNMARKED, block);
                 self.problem_if(is_used(self.cells, block), QUEUED_USED, block);
                 self.cells[block as usize] |= POOL_USED;
@@ -178,7 +182,8 @@ mod tests {
         let blocks = Blocks { image: &image, size: 4096, count: 16 };
         let pool = Pool { base: 0, count: 0, bitmaps: Vec::new() };
         for (bitmap, free) in [(0, 16), (1, 6)] {
-            let mut audit = Audit { pool: &pool, cells: &mut [0; 16], report: Report::default() };
+            let report = Report::default();
+            let mut audit = Audit { pool: &pool, cells: &mut [0; 16], report, queued_to_count: false };
             assert_eq!(audit.chunk(&blocks, &Chunk { address: 0, blocks: 16, free, bitmap }), Ok(()));
             assert_eq!((audit.report.free, audit.report.wrong_counts), (free, 0));
         }

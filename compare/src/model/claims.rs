@@ -4,7 +4,7 @@ use super::audit::queued;
 use super::blocks::{field, sum, Blocks, Step};
 use super::checkpoint::Taken;
 use super::manager::{Manager, LENGTH_MASK};
-use super::tree::{scan_queue, ObjectMap};
+use super::tree::{scan_queue, ObjectMap, Walked};
 use crate::answer::{Overlap, Report, LISTED, OWNER};
 use crate::fields::{manager as m, mapped, superblock as s};
 
@@ -55,15 +55,16 @@ impl Claims<'_> {
     }
 
     /// Claims 6 to 8: the object map, its nodes, and every mapping that is no ghost.
-    pub fn object_map(&mut self, blocks: &Blocks, objects: &ObjectMap) -> Step<()> {
+    pub fn object_map(&mut self, blocks: &Blocks, objects: &ObjectMap) -> Step<Walked> {
         self.claim(objects.address, 1, OBJECT_MAP)?;
-        objects.walk(blocks, &mut |address| self.claim(address, 1, OBJECT_MAP_NODE))?;
+        let walked = objects.walk(blocks, &mut |address| self.claim(address, 1, OBJECT_MAP_NODE))?;
         objects.scan(blocks, &mut |entry| {
             let Some(value) = entry.value else { return Ok(()) };
             field(entry.key, mapped::ID.at, mapped::ID.width)?;
             field(entry.key, mapped::XID.at, mapped::XID.width)?;
             self.claim(field(value, mapped::ADDRESS.at, mapped::ADDRESS.width)?, 1, VOLUME)
-        })
+        })?;
+        Ok(walked)
     }
 
     /// Claim 9.

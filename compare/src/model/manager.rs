@@ -10,6 +10,25 @@ use crate::refusal::Refusal;
 /// Area lengths drop their top bit.
 pub const LENGTH_MASK: u64 = 0x7fff_ffff;
 
+/// The data area, around which the manager's blocks lie.
+pub struct Ring {
+    base: u64,
+    pub blocks: u64,
+}
+
+impl Ring {
+    pub fn of(superblock: &[u8]) -> Self {
+        let blocks = (superblock::DATA_BLOCKS.of(superblock) & LENGTH_MASK).max(1);
+        Ring { base: superblock::DATA_BASE.of(superblock), blocks }
+    }
+
+    /// The address of block `i` of an object that is mapped at `address`.
+    pub fn block(&self, address: u64, i: u64) -> Step<u64> {
+        let offset = address.checked_sub(self.base).ok_or(Refusal::Sum)?;
+        sum(self.base, sum(offset, i)? % self.blocks)
+    }
+}
+
 pub struct Manager<'a> {
     /// Its blocks in order, the last one whole: an object of 4 GiB over a ring of two blocks needs no copy.
     parts: Vec<&'a [u8]>,
@@ -19,14 +38,10 @@ pub struct Manager<'a> {
 impl<'a> Manager<'a> {
     pub fn load(blocks: &Blocks<'a>, taken: &Taken, notes: &mut Notes) -> Step<Self> {
         let mapping = taken.lookup(superblock::MANAGER_ID.of(taken.superblock)).ok_or(Refusal::NotMapped)?;
-        let base = superblock::DATA_BASE.of(taken.superblock);
-        let ring = (superblock::DATA_BLOCKS.of(taken.superblock) & LENGTH_MASK).max(1);
-        let block_of = |i: u64| {
-            let offset = mapping.address.checked_sub(base).ok_or(Refusal::Sum)?;
-            blocks.raw(sum(base, sum(offset, i)? % ring)?)
-        };
+        let ring = Ring::of(taken.superblock);
+        let block_of = |i: u64| blocks.raw(ring.block(mapping.address, i)?);
         let parts = (0..mapping.size.div_ceil(blocks.size as u64)).map(block_of).collect::<Step<Vec<_>>>()?;
-        notes.repeated_manager = parts.len() as u64 > ring;
+        notes.repeated_manager = parts.len() as u64 > ring.blocks;
         let length = mapping.size as usize;
         need(verifies_in_parts(&parts, length), Refusal::Checksum)?;
         need(length >= manager::LENGTH, Refusal::Absent)?;

@@ -6,17 +6,51 @@ use crate::fields::{description, fixed_slot, node, object, object_map, variable_
 use crate::refusal::Refusal;
 
 /// A walk may need so many levels.
-const WALK_LEVELS: u64 = 33;
+pub const WALK_LEVELS: u64 = 33;
+
+/// What a node says of itself, and where its parts stand.
+#[derive(Clone, Copy)]
+pub struct Layout {
+    flags: u64,
+    level: u64,
+    pub keys: u64,
+    pub table: usize,
+    pub key_area: usize,
+    pub value_end: usize,
+}
+
+impl Layout {
+    pub fn of(bytes: &[u8]) -> Self {
+        let flags = node::FLAGS.of(bytes);
+        let table = node::DATA + node::TABLE_OFFSET.of(bytes) as usize;
+        Layout {
+            flags,
+            level: node::LEVEL.of(bytes),
+            keys: node::KEYS.of(bytes),
+            table,
+            key_area: table + node::TABLE_LENGTH.of(bytes) as usize,
+            value_end: bytes.len() - if flags & node::ROOT != 0 { description::LENGTH } else { 0 },
+        }
+    }
+
+    pub fn is(&self, flag: u64) -> bool {
+        self.flags & flag != 0
+    }
+
+    /// The fields of a slot of the table, from its own first byte, and its length.
+    pub fn slot(&self) -> (&'static [Field], usize) {
+        if self.is(node::FIXED) {
+            (fixed_slot::ALL, fixed_slot::LENGTH)
+        } else {
+            (variable_slot::ALL, variable_slot::LENGTH)
+        }
+    }
+}
 
 #[derive(Clone, Copy)]
 pub struct Node<'a> {
     bytes: &'a [u8],
-    flags: u64,
-    level: u64,
-    keys: u64,
-    table: usize,
-    key_area: usize,
-    value_end: usize,
+    layout: Layout,
 }
 
 /// What a root says of its tree.
@@ -38,18 +72,14 @@ impl<'a> Node<'a> {
     pub fn read(blocks: &Blocks<'a>, address: u64) -> Step<Self> {
         let bytes = blocks.object(address)?;
         need([object::ROOT_NODE, object::NODE].contains(&object::KIND.of(bytes)), Refusal::Kind)?;
-        let flags = node::FLAGS.of(bytes);
-        need(flags & node::HASHED == 0, Refusal::Kind)?;
-        let table = node::DATA + node::TABLE_OFFSET.of(bytes) as usize;
-        let key_area = table + node::TABLE_LENGTH.of(bytes) as usize;
-        let value_end = bytes.len() - if flags & node::ROOT != 0 { description::LENGTH } else { 0 };
-        let level = node::LEVEL.of(bytes);
-        need(key_area <= value_end && level <= node::HIGHEST_LEVEL, Refusal::Layout)?;
-        Ok(Node { bytes, flags, level, keys: node::KEYS.of(bytes), table, key_area, value_end })
+        let layout = Layout::of(bytes);
+        need(!layout.is(node::HASHED), Refusal::Kind)?;
+        need(layout.key_area <= layout.value_end && layout.level <= node::HIGHEST_LEVEL, Refusal::Layout)?;
+        Ok(Node { bytes, layout })
     }
 
     fn is(&self, flag: u64) -> bool {
-        self.flags & flag != 0
+        self.layout.is(flag)
     }
 
     pub fn describe(&self) -> Step<Description> {
@@ -65,7 +95,7 @@ impl<'a> Node<'a> {
     /// Entry `i`: its slot, its key and its value must lie inside the node.
     fn entry(&self, i: u64, tree: &Description) -> Step<Entry<'a>> {
         let fixed = self.is(node::FIXED);
-        let slot = self.table + i as usize * if fixed { fixed_slot::LENGTH } else { variable_slot::LENGTH };
+        let slot = self.layout.table + i as usize * self.layout.slot().1;
         let part = |f: Field| field(self.bytes, slot + f.at, f.width).map(|n| n as usize);
         let (key_at, key_length, value_at, value_length) = if fixed {
             let value_size = if self.is(node::LEAF) { tree.value_size } else { node::POINTER };
@@ -74,11 +104,11 @@ impl<'a> Node<'a> {
             use variable_slot::*;
             (part(KEY)?, part(KEY_LENGTH)?, part(VALUE)?, part(VALUE_LENGTH)?)
         };
-        let key = cut(self.bytes, self.key_area + key_at, key_length)?;
+        let key = cut(self.bytes, self.layout.key_area + key_at, key_length)?;
         if value_at as u64 == node::GHOST {
             return Ok(Entry { key, value: None });
         }
-        let value_start = self.value_end.checked_sub(value_at).ok_or(Refusal::Absent)?;
+        let value_start = self.layout.value_end.checked_sub(value_at).ok_or(Refusal::Absent)?;
         Ok(Entry { key, value: Some(cut(self.bytes, value_start, value_length)?) })
     }
 }
@@ -97,18 +127,18 @@ pub fn scan<'a>(
     child: Child<'a, '_>,
     visit: &mut dyn FnMut(Entry<'a>) -> Step<()>,
 ) -> Step<()> {
-    for i in 0..node.keys {
+    for i in 0..node.layout.keys {
         let entry = node.entry(i, tree)?;
         if node.is(node::LEAF) {
             visit(entry)?;
             continue;
         }
         // Entry i + 1 is looked at before child i is read.
-        if i + 1 < node.keys {
+        if i + 1 < node.layout.keys {
             node.entry(i + 1, tree)?;
         }
         let below = child(pointer(&entry)?)?;
-        need(below.level + 1 == node.level, Refusal::Level)?;
+        need(below.layout.level + 1 == node.layout.level, Refusal::Level)?;
         scan(&below, tree, child, visit)?;
     }
     Ok(())
@@ -156,29 +186,39 @@ impl<'a> ObjectMap<'a> {
     }
 
     /// The addresses of all nodes, parent first and last child first.
-    pub fn walk(&self, blocks: &Blocks<'a>, visit: &mut dyn FnMut(u64) -> Step<()>) -> Step<()> {
-        let mut walk = Walk { blocks, tree: &self.tree, nodes: 0, visit };
-        walk.from(self.root_address, 1)
+    pub fn walk(&self, blocks: &Blocks<'a>, visit: &mut dyn FnMut(u64) -> Step<()>) -> Step<Walked> {
+        let mut walk = Walk { blocks, tree: &self.tree, walked: Walked::default(), visit };
+        walk.from(self.root_address, 1)?;
+        Ok(walk.walked)
     }
+}
+
+/// How far a walk went: nodes with repeats, and levels.
+#[derive(Clone, Copy, Default)]
+pub struct Walked {
+    pub nodes: u64,
+    pub levels: u64,
 }
 
 struct Walk<'w, 'a> {
     blocks: &'w Blocks<'a>,
     tree: &'w Description,
-    nodes: u64,
+    walked: Walked,
     visit: &'w mut dyn FnMut(u64) -> Step<()>,
 }
 
 impl Walk<'_, '_> {
     fn from(&mut self, address: u64, level: u64) -> Step<()> {
-        need(level <= WALK_LEVELS && self.nodes < self.blocks.count, Refusal::Walk)?;
-        self.nodes += 1;
+        need(level <= WALK_LEVELS && self.walked.nodes < self.blocks.count, Refusal::Walk)?;
+        self.walked.nodes += 1;
+        self.walked.levels = self.walked.levels.max(level);
         let node = Node::read(self.blocks, address)?;
         (self.visit)(address)?;
         if node.is(node::LEAF) {
             return Ok(());
         }
-        let pointers = (0..node.keys).map(|i| pointer(&node.entry(i, self.tree)?)).collect::<Step<Vec<u64>>>()?;
+        let pointers =
+            (0..node.layout.keys).map(|i| pointer(&node.entry(i, self.tree)?)).collect::<Step<Vec<u64>>>()?;
         pointers.iter().rev().try_for_each(|&below| self.from(below, level + 1))
     }
 }

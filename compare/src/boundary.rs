@@ -1,0 +1,133 @@
+//! Images on either side of each added refusal's boundary, for the fixed list.
+//!
+//! Where the original isn't asked nothing shows that a refusal comes too early, but an image on its near side, on which
+//! the original is asked.
+
+use crate::draft::Draft;
+use crate::fields::{manager, superblock};
+use crate::image::Image;
+use crate::model::{HIGHEST_COUNT, WALK_LEVELS};
+use crate::recipes::{area_to_end, chain_of, queue_entry, repeats_of};
+use crate::refusal::Refusal;
+use crate::rng::Rng;
+use crate::seeds::Base;
+use crate::survey::Role;
+
+/// Says what it made, or nothing where the container has no place for it.
+type Side = fn(&mut Draft) -> Option<String>;
+
+pub struct Boundary {
+    pub name: &'static str,
+    /// The refusal on the far side.
+    pub refusal: Refusal,
+    near: Side,
+    far: Side,
+}
+
+pub const BOUNDARIES: &[Boundary] = &[
+    Boundary { name: "lowest count", refusal: Refusal::BlockCount, near: |d| count(d, 1), far: |d| count(d, 0) },
+    Boundary {
+        name: "highest count",
+        refusal: Refusal::BlockCount,
+        near: |d| count(d, HIGHEST_COUNT),
+        far: |d| count(d, HIGHEST_COUNT + 1),
+    },
+    Boundary { name: "image", refusal: Refusal::ImageBelowCount, near: |d| image(d, 0), far: |d| image(d, 1) },
+    Boundary { name: "map", refusal: Refusal::MapBelowCount, near: |d| map(d, 0), far: |d| map(d, 1) },
+    Boundary {
+        name: "descriptor area",
+        refusal: Refusal::DescriptorArea,
+        near: |d| area_to_end(d, 0),
+        far: |d| area_to_end(d, 1),
+    },
+    Boundary {
+        name: "lower count",
+        refusal: Refusal::CountDiffers,
+        near: |d| superblock_count(d, d.survey.count),
+        far: |d| superblock_count(d, d.survey.count - 1),
+    },
+    Boundary {
+        name: "higher count",
+        refusal: Refusal::CountDiffers,
+        near: |d| superblock_count(d, d.survey.count),
+        far: |d| superblock_count(d, d.survey.count + 1),
+    },
+    Boundary {
+        name: "address blocks",
+        refusal: Refusal::AddressBlocks,
+        near: |d| address_blocks(d, 0),
+        far: |d| address_blocks(d, 1),
+    },
+    Boundary {
+        name: "queued block",
+        refusal: Refusal::QueuedPastCount,
+        near: |d| queued(d, d.survey.count - 1, 1),
+        far: |d| queued(d, d.survey.count, 1),
+    },
+    Boundary {
+        name: "queued blocks",
+        refusal: Refusal::QueuedPastCount,
+        near: |d| queued(d, 1, d.survey.count - 1),
+        far: |d| queued(d, 1, d.survey.count),
+    },
+    Boundary {
+        name: "queued nothing",
+        refusal: Refusal::QueuedPastCount,
+        near: |d| queued(d, d.survey.count, 0),
+        far: |d| queued(d, d.survey.count + 1, 0),
+    },
+    Boundary { name: "nodes", refusal: Refusal::Walk, near: |d| repeats_of(d, 0), far: |d| repeats_of(d, 1) },
+    Boundary {
+        name: "levels",
+        refusal: Refusal::Walk,
+        near: |d| chain_of(d, WALK_LEVELS),
+        far: |d| chain_of(d, WALK_LEVELS + 1),
+    },
+];
+
+impl Boundary {
+    /// The images on the near and on the far side, where the container has a place for them.
+    pub fn images(&self, base: &Base) -> Option<[Image; 2]> {
+        Some([self.image(base, "near", self.near)?, self.image(base, "far", self.far)?])
+    }
+
+    fn image(&self, base: &Base, side: &str, make: Side) -> Option<Image> {
+        let mut draft = Draft { image: base.image(), survey: &base.survey, rng: &mut Rng::new(base.number) };
+        let made = make(&mut draft)?;
+        draft.note(&format!("{side} side of {}, {}", self.refusal.number(), self.name), &made);
+        Some(draft.image)
+    }
+}
+
+/// Block 0 states a count, and an area that any count but 0 holds.
+fn count(d: &mut Draft, count: u64) -> Option<String> {
+    let fields =
+        [(superblock::BLOCK_COUNT, count), (superblock::DESCRIPTOR_BASE, 0), (superblock::DESCRIPTOR_BLOCKS, 1)];
+    d.rewrite(d.first(Role::BlockZero)?, &fields);
+    Some(format!("{count} blocks"))
+}
+
+fn image(d: &mut Draft, missing: usize) -> Option<String> {
+    let length = d.image.bytes.len() - missing;
+    d.image.bytes.truncate(length);
+    Some(format!("{length} bytes for {} blocks", d.survey.count))
+}
+
+fn map(d: &mut Draft, missing: usize) -> Option<String> {
+    d.image.map_length -= missing;
+    Some(format!("{} bytes for {} blocks", d.image.map_length, d.survey.count))
+}
+
+fn superblock_count(d: &mut Draft, count: u64) -> Option<String> {
+    d.superblocks().into_iter().for_each(|sb| d.rewrite(sb, &[(superblock::BLOCK_COUNT, count)]));
+    Some(format!("superblocks state {count} of {} blocks", d.survey.count))
+}
+
+fn address_blocks(d: &mut Draft, blocks: u64) -> Option<String> {
+    d.rewrite(d.first(Role::Manager)?, &[(manager::ADDRESS_BLOCKS, blocks)]);
+    Some(format!("{blocks} of them"))
+}
+
+fn queued(d: &mut Draft, start: u64, length: u64) -> Option<String> {
+    queue_entry(d, Role::PoolQueueNode, start, length)
+}
