@@ -1,5 +1,6 @@
 //! Links the proved library where the feature asks for it.
 
+use std::hash::{DefaultHasher, Hasher};
 use std::path::Path;
 
 fn main() {
@@ -10,15 +11,19 @@ fn main() {
     let root = Path::new(env!("CARGO_MANIFEST_DIR")).join("..");
     let dir = root.join(std::env::var_os("SPACE_CHECK_DIR").unwrap_or("target/staticlib".into()));
     let archive = dir.join("libinterface.a");
-    if !archive.exists() {
+    let Ok(bytes) = std::fs::read(&archive) else {
         eprintln!(
             "{} isn't there: run `rt staticlib interface`, or set SPACE_CHECK_DIR to its folder",
             archive.display()
         );
         std::process::exit(1);
-    }
-    // A new archive is linked anew.
+    };
+    let mut sum = DefaultHasher::new();
+    sum.write(&bytes);
+    // A new archive is linked anew; one whose time isn't newer is seen by its sum, when the program starts.
     println!("cargo:rerun-if-changed={}", archive.display());
+    println!("cargo:rustc-env=SPACE_CHECK_ARCHIVE={}", archive.display());
+    println!("cargo:rustc-env=SPACE_CHECK_SUM={}", sum.finish());
     println!("cargo:rustc-link-search=native={}", dir.display());
     println!("cargo:rustc-link-lib=static=interface");
 }

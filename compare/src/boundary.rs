@@ -131,3 +131,22 @@ fn address_blocks(d: &mut Draft, blocks: u64) -> Option<String> {
 fn queued(d: &mut Draft, start: u64, length: u64) -> Option<String> {
     queue_entry(d, Role::PoolQueueNode, start, length)
 }
+
+#[cfg(test)]
+mod tests {
+    use super::*;
+    use crate::fill::Fill;
+    use crate::model::check;
+
+    #[test]
+    fn a_refusal_is_given_on_its_far_side_alone() {
+        for boundary in BOUNDARIES {
+            let images = (0..500).find_map(|number| boundary.images(&Base::build(number)));
+            let refusals = images.expect("some container has a place for it").map(|image| {
+                let pass = check(&image.bytes, &mut Fill::Listed.map(image.map_length));
+                pass.refusal == Some(boundary.refusal)
+            });
+            assert_eq!(refusals, [false, true], "{}", boundary.name);
+        }
+    }
+}

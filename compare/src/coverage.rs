@@ -8,6 +8,7 @@ use crate::image::Image;
 use crate::judge::{is_due, Judgement};
 use crate::messages;
 use crate::model::{Notes, Pass, HIGHEST_COUNT, WALK_LEVELS};
+use crate::recipes::RECIPES;
 use crate::refusal::{self, Refusal, LAST_UNTOUCHED};
 use crate::worker::Reply;
 
@@ -21,6 +22,7 @@ pub enum Row {
     Claimant(u64),
     Lost(u64),
     Finding(&'static str),
+    Recipe(&'static str),
     Shape(String),
 }
 
@@ -116,6 +118,7 @@ impl fmt::Display for Row {
             Row::Claimant(k) => write!(f, "overlap, claimant {k}: {}", KINDS[*k as usize - 1]),
             Row::Lost(k) => write!(f, "lost {k}: {}", KINDS[*k as usize - 1]),
             Row::Finding(name) => write!(f, "{name}"),
+            Row::Recipe(name) => write!(f, "damage: {name}"),
             Row::Shape(name) => write!(f, "shape: {name}"),
         }
     }
@@ -131,6 +134,7 @@ pub fn wanted() -> Vec<Row> {
     rows.extend((2..=KINDS.len() as u64).map(Row::Claimant));
     rows.extend((1..=KINDS.len() as u64).map(Row::Lost));
     rows.extend(FINDINGS.map(Row::Finding));
+    rows.extend(RECIPES.iter().map(|(name, _)| Row::Recipe(name)));
     rows.extend(SHAPES.map(|name| Row::Shape(name.into())));
     rows
 }
@@ -149,6 +153,7 @@ pub fn rows(pass: &Pass, image: &Image) -> BTreeSet<Row> {
         }
     }
     rows.extend(held(&[(DAMAGES, image.ways.len() > 1)]));
+    rows.extend(RECIPES.iter().filter(|(name, _)| image.ways == [*name]).map(|(name, _)| Row::Recipe(name)));
     if image.ways.is_empty() {
         rows.extend(image.features.iter().cloned().map(Row::Shape));
     }

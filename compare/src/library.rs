@@ -6,10 +6,13 @@
 pub const LINKED: bool = cfg!(feature = "library");
 
 #[cfg(feature = "library")]
-pub use linked::check;
+pub use linked::{check, is_current};
 
 #[cfg(feature = "library")]
 mod linked {
+    use std::hash::{DefaultHasher, Hasher};
+    use std::{fs, io};
+
     use crate::answer::NUMBERS;
     use crate::fill::Fill;
 
@@ -26,6 +29,20 @@ mod linked {
             figures: *mut u64,
             figures_length: usize,
         );
+    }
+
+    /// An error where the archive that was linked is no longer what stands there.
+    pub fn is_current() -> io::Result<()> {
+        let path = env!("SPACE_CHECK_ARCHIVE");
+        // An archive that is gone can't be another one.
+        let Ok(bytes) = fs::read(path) else { return Ok(()) };
+        let mut sum = DefaultHasher::new();
+        sum.write(&bytes);
+        if sum.finish().to_string() == env!("SPACE_CHECK_SUM") {
+            Ok(())
+        } else {
+            Err(io::Error::other(format!("{path} has changed since it was linked: build again")))
+        }
     }
 
     /// The numbers and the map, or which rule of the call was broken.

@@ -69,6 +69,8 @@ fn main() -> ExitCode {
 
 /// Whether all agree.
 fn command(words: &[&str]) -> io::Result<bool> {
+    #[cfg(feature = "library")]
+    library::is_current()?;
     match words {
         ["run", "--seeds", seeds] => run::run(range(seeds)?),
         ["real"] => Ok(real::real(DAMAGED)? == 0),

@@ -23,9 +23,12 @@ const LARGEST: usize = 65_536;
 /// So many ways to each refusal, and so many images for each other row.
 const WAYS: usize = 14;
 const EXAMPLES: usize = 6;
+/// Fewer where the row says how an image was made.
+const RECIPES: usize = 4;
+const SHAPES: usize = 2;
 
 const HEADER: &str = "\
-# Images with the answers of the original, kept for replaying without it.
+# Images with the answers of the original, for replaying where its sources are not at hand (tools/replay).
 # Made by `compare answers`; the form is told in compare/README.md.
 # rust report: every figure and the map are the original's.
 # rust error, panic or abort: the number and the map are the model's.
@@ -60,7 +63,8 @@ impl Choice {
                 seen < EXAMPLES || seen < WAYS && !self.ways.contains(&(row.clone(), way.clone()))
             }
             (Row::Refusal(_), _) => false,
-            (Row::Shape(_), _) => seen < 2,
+            (Row::Shape(_), _) => seen < SHAPES,
+            (Row::Recipe(_), _) => seen < RECIPES,
             _ => seen < EXAMPLES,
         }
     }
