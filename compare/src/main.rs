@@ -47,7 +47,7 @@ usage: compare run --seeds A..B      images of seeds A to B - 1, the table of co
        compare answers               the fixed list, on standard output
        compare answers IMAGE...      the original's answer for each image file
        compare verify [FILE...]      replays the fixed list, or other files of its form
-exit status: 0 all agree, 1 a disagreement, 2 anything else";
+exit status: 0 all agree, 1 a disagreement or a row of the table not reached by 20,000 seeds or more, 2 anything else";
 
 /// Damaged images of each large container.
 const DAMAGED: u64 = 40;

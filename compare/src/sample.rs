@@ -127,19 +127,22 @@ impl List {
     }
 
     /// Both sides of a boundary, in the first small container on which the near side is the original's.
-    fn write_boundary(&mut self, boundary: &Boundary) -> io::Result<bool> {
+    fn write_boundary(&mut self, boundary: &Boundary) -> io::Result<Result<(), String>> {
+        let name = format!("boundary-{}-{}", boundary.refusal.number(), boundary.name.replace(' ', "-"));
         for base in (0..CONTAINERS).map(Base::build).filter(|base| base.bytes.len() <= LARGEST) {
             let Some([near, far]) = boundary.images(&base) else { continue };
             let judgements = [self.judge(&near)?, self.judge(&far)?];
-            if judgements.iter().all(|j| j.disagreement.is_none()) && shows(boundary, &judgements) {
-                let name = format!("boundary-{}-{}", boundary.refusal.number(), boundary.name.replace(' ', "-"));
+            if let Some(what) = judgements.iter().find_map(|j| j.disagreement.as_ref()) {
+                return Ok(Err(format!("{name}, container {}: {what}", base.number)));
+            }
+            if shows(boundary, &judgements) {
                 let [near_judged, far_judged] = judgements;
                 self.write(format!("{name}-near"), &base, near, &near_judged);
                 self.write(format!("{name}-far"), &base, far, &far_judged);
-                return Ok(true);
+                return Ok(Ok(()));
             }
         }
-        Ok(false)
+        Ok(Err(format!("no container shows {name}")))
     }
 }
 
@@ -167,8 +170,8 @@ pub fn make() -> io::Result<Result<String, String>> {
         list.write(format!("seed-{seed}"), builder.base(seed), image, &judgement);
     }
     for boundary in BOUNDARIES {
-        if !list.write_boundary(boundary)? {
-            return Ok(Err(format!("no container shows the boundary: {}", boundary.name)));
+        if let Err(what) = list.write_boundary(boundary)? {
+            return Ok(Err(what));
         }
     }
     let missing: Vec<String> = wanted().iter().filter(|row| !list.reached.contains(row)).map(Row::to_string).collect();

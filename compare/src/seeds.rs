@@ -106,6 +106,12 @@ mod tests {
     }
 
     #[test]
+    fn every_seed_gives_an_image() {
+        let mut builder = Builder::default();
+        assert!((0..20_000).all(|seed| builder.image(seed).features == builder.base(seed).survey.features));
+    }
+
+    #[test]
     fn a_seed_gives_one_image() {
         let twice = [(); 2].map(|()| Builder::default().image(37));
         assert_eq!(twice[0].bytes, twice[1].bytes);

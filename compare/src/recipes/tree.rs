@@ -101,7 +101,9 @@ pub fn key_area_to_end(d: &mut Draft) -> Option<String> {
 
 /// The first key of a root stands at the node's end, inside the description.
 pub fn key_past_end(d: &mut Draft) -> Option<String> {
-    let (object, layout) = some_node(d, |layout| layout.is(node::ROOT) && layout.keys > 0)?;
+    // The first slot may lie outside by another damage.
+    let has_key = |layout: &Layout| layout.keys > 0 && layout.table + layout.slot().1 <= layout.value_end;
+    let (object, layout) = some_node(d, |layout| layout.is(node::ROOT) && has_key(layout))?;
     let key_length = if layout.is(node::FIXED) {
         d.get(object, description::KEY_SIZE.shifted(layout.value_end))
     } else {
