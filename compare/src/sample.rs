@@ -128,7 +128,7 @@ impl List {
 
     /// Both sides of a boundary, in the first small container on which the near side is the original's.
     fn write_boundary(&mut self, boundary: &Boundary) -> io::Result<Result<(), String>> {
-        let name = format!("boundary-{}-{}", boundary.refusal.number(), boundary.name.replace(' ', "-"));
+        let name = item_name(boundary);
         for base in (0..CONTAINERS).map(Base::build).filter(|base| base.bytes.len() <= LARGEST) {
             let Some([near, far]) = boundary.images(&base) else { continue };
             let judgements = [self.judge(&near)?, self.judge(&far)?];
@@ -144,6 +144,10 @@ impl List {
         }
         Ok(Err(format!("no container shows {name}")))
     }
+}
+
+fn item_name(boundary: &Boundary) -> String {
+    format!("boundary-{}-{}", boundary.refusal.number(), boundary.name.replace(' ', "-"))
 }
 
 /// The near side has an answer of the original, a report where there can be one, and the far side the refusal.
@@ -180,13 +184,31 @@ pub fn make() -> io::Result<Result<String, String>> {
 
 #[cfg(test)]
 mod tests {
+    use super::*;
+    use crate::list::parse;
+
+    fn kept() -> Vec<Item> {
+        parse(include_str!("../answers/list.txt")).expect("the list can be read")
+    }
+
     #[test]
     fn the_fixed_list_is_the_models() {
-        let text = include_str!("../answers/list.txt");
-        for item in crate::list::parse(text).unwrap() {
-            let mut left = crate::fill::Fill::Listed.map(item.map_length);
-            let pass = crate::model::check(&item.image, &mut left);
+        for item in kept() {
+            let mut left = Fill::Listed.map(item.map_length);
+            let pass = model::check(&item.image, &mut left);
             assert_eq!((pass.answer.numbers(), left), (item.answer, item.left), "{}", item.name);
+        }
+    }
+
+    #[test]
+    fn the_fixed_list_has_both_sides_of_each_boundary() {
+        let items = kept();
+        let find = |name: String| items.iter().find(|item| item.name == name).expect("a side of a boundary");
+        for boundary in BOUNDARIES {
+            let name = item_name(boundary);
+            let (near, far) = (find(format!("{name}-near")), find(format!("{name}-far")));
+            assert_eq!(far.answer[0], boundary.refusal.number(), "{name}");
+            assert!(boundary.refusal == Refusal::BlockCount || near.original == "report", "{name}");
         }
     }
 }
