@@ -1,6 +1,6 @@
 -- Laws of claims that overlap nothing.
 use mathlib.Core.Path.{_≡_, refl, sym, ap, _∙_}
-use mathlib.Core.Bool.{Bool, true, false, _&&_, _||_, true≢false}
+use mathlib.Core.Bool.{Bool, true, false, _&&_, _||_}
 use mathlib.Core.List.{List}
 use Prim.Native.Nat.{ℕ, zero, suc, _+_, _-_, _%_, _<_, _≤_, min}
 use native.Mathlib.Omega.{arith}
@@ -11,7 +11,7 @@ use Rattle.blocks.specs.Blocks.{sum}
 use Rattle.blocks.specs.declared.Container.{Container}
 use Rattle.blocks.proofs.Laws.{then-given, and-left, and-right}
 use Rattle.block_map.specs.BlockMap.{Marked, Kept, Unlogged, update, ownerOf, ownedBy}
-use Rattle.block_map.proofs.Laws.{update-other, kept-same}
+use Rattle.block_map.proofs.Laws.{update-other}
 use Rattle.report.specs.declared.OverlapLog.{OverlapLog}
 use Rattle.totals.specs.Totals.{unowned}
 use Rattle.claims.specs.Answers.{owned}
@@ -73,15 +73,6 @@ module _ (kind end a : ℕ) where
         small = omega arith
 
 -- what a claim without the log answers
-
--- nothing was done
-pub not-made : {f : ℕ → List ℕ} {count : ℕ} {map : List ℕ} {defined : Marked OverlapLog → Reads (Marked OverlapLog)} → Unlogged f count false map map defined
-not-made = record { made = λ e. absurd (true≢false (sym e)); left = λ _. refl; kept = kept-same _ _ }
-
--- it was done, as the definition does it
-pub was-made : {f : ℕ → List ℕ} {count : ℕ} {before after : List ℕ} {defined : Marked OverlapLog → Reads (Marked OverlapLog)}
-    → ((log : OverlapLog) → run f (defined (owned before log)) ≡ given (owned after log)) → Kept count before after → Unlogged f count true before after defined
-was-made e k = record { made = λ _. e; left = λ q. absurd (true≢false q); kept = k }
 
 -- a claim that comes to another
 pub made-as : {f : ℕ → List ℕ} {count : ℕ} {r : Bool} {before after : List ℕ} {defined whole : Marked OverlapLog → Reads (Marked OverlapLog)}

@@ -1,8 +1,8 @@
 use mathlib.Core.Path.{sym, ap, _∙_}
-use Rattle.block_map.proofs.Laws.{kept-same}
 use Rattle.queue.specs.Answers.{gotAs}
 use Rattle.claims.proofs.Laws.{mapping-ghost, mapping-given}
-use Rattle.claims.proofs.UnloggedLaws.{not-made, was-made, made-as}
+use Rattle.block_map.proofs.Laws.{kept-same, not-made, was-made}
+use Rattle.claims.proofs.UnloggedLaws.{made-as}
 use borrow.Author.Needs.{needs}
 use Rattle.claims.proofs.unlogged.claim_mapping.Statement.{statement}
 use Rattle.claims.proofs.unlogged.claim_mapping.Tie as tie

@@ -2,7 +2,8 @@ use mathlib.Core.Path.{sym, ap, _∙_}
 use Rattle.blocks.proofs.Laws.{then-given}
 use Rattle.queue.specs.Answers.{ranAs}
 use Rattle.claims.specs.Claims.{claimQueued}
-use Rattle.claims.proofs.UnloggedLaws.{not-made, made-as}
+use Rattle.block_map.proofs.Laws.{not-made}
+use Rattle.claims.proofs.UnloggedLaws.{made-as}
 use borrow.Author.Needs.{needs}
 use Rattle.claims.proofs.unlogged.claim_queued.Statement.{statement}
 use Rattle.claims.proofs.unlogged.claim_queued.Tie as tie

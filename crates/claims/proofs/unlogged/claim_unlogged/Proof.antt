@@ -1,6 +1,7 @@
 use mathlib.Core.Path.{sym, ap, _∙_}
 use Rattle.blocks.specs.Answers.{addedAs}
-use Rattle.claims.proofs.UnloggedLaws.{not-made, was-made, claim-made}
+use Rattle.block_map.proofs.Laws.{not-made, was-made}
+use Rattle.claims.proofs.UnloggedLaws.{claim-made}
 use borrow.Author.Needs.{needs}
 use Rattle.claims.proofs.unlogged.claim_unlogged.Statement.{statement}
 use Rattle.claims.proofs.unlogged.claim_unlogged.Tie as tie
