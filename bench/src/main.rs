@@ -49,7 +49,7 @@ const MKAPFS_RUNS: usize = 5;
 /// Dense containers; the last is the one with a bar.
 const DENSE_GIBIBYTES: [u64; 3] = [16, 32, 64];
 const DENSE_BAR: f64 = 4.0;
-const DENSE_RUNS: usize = 15;
+const DENSE_RUNS: usize = 30;
 
 fn main() -> ExitCode {
     let arguments: Vec<String> = std::env::args().skip(1).collect();
