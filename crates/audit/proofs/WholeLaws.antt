@@ -13,20 +13,27 @@ use Rattle.fields.specs.Fields.{bit, bitAt}
 use Rattle.blocks.specs.Reads.{run, need, _>>=_}
 use Rattle.blocks.specs.Blocks.{sum}
 use Rattle.blocks.specs.declared.Container.{Container}
-use Rattle.block_map.specs.BlockMap.{Marked, Kept, marked}
+use Rattle.block_map.specs.BlockMap.{Marked, Kept, update, marked}
 use Rattle.block_map.proofs.Laws.{update-set, kept-same, kept-then, kept-update}
 use Rattle.pool.proofs.Laws.{bit-read-of, bit-none}
 use Rattle.report.specs.declared.Step.{Step}
 use Rattle.audit.specs.Audit.{markFrom}
 use Rattle.audit.specs.Answers.{Stepped}
-use Rattle.audit.specs.Bits.{bitMarked, bitsMarked}
+use Rattle.audit.specs.Bits.{bitMarked, bitsMarked, onesIn}
 use Rattle.audit.proofs.Laws.{none-left}
+use Rattle.audit.proofs.OnesLaws.{ones-few}
 
 -- a bit's block written, whether or not the bit is set
-bit-written : (on : Bool) (a : ℕ) (map : List ℕ) (zeros : ℕ) → bitMarked on a (record { map = map; figures = zeros }) ≡ record { map = set map a (pick on (marked (getD map a 0)) (getD map a 0)); figures = zeros + pick on 0 1 }
+bit-written : (on : Bool) (a : ℕ) (s : Marked ℕ) → bitMarked on a s .map ≡ set (s .map) a (pick on (marked (getD (s .map) a 0)) (getD (s .map) a 0))
 unfolding bitMarked
-bit-written true a map zeros = rw (update-set marked a map, add-zero) refl
-bit-written false a map zeros = rw (set-getD map a 0) refl
+bit-written true a s = update-set marked a (s .map)
+bit-written false a s = sym (set-getD (s .map) a 0)
+
+-- the map is the same whatever was counted
+bit-map : (on : Bool) (a : ℕ) (s t : Marked ℕ) → s .map ≡ t .map → bitMarked on a s .map ≡ bitMarked on a t .map
+unfolding bitMarked
+bit-map true a s t e = ap (update marked a) e
+bit-map false a s t e = e
 
 bit-kept : (count : ℕ) (on : Bool) (a : ℕ) (s : Marked ℕ) → a < count → Kept count (s .map) (bitMarked on a s .map)
 unfolding bitMarked
@@ -37,6 +44,11 @@ bit-few : (on : Bool) (a : ℕ) (s : Marked ℕ) → bitMarked on a s .figures �
 unfolding bitMarked
 bit-few true a s = omega arith
 bit-few false a s = omega arith
+
+bit-counted : (on : Bool) (a : ℕ) (s : Marked ℕ) → bitMarked on a s .figures + pick on 1 0 ≡ s .figures + 1
+unfolding bitMarked
+bit-counted true a s = refl
+bit-counted false a s = add-zero _
 
 module _ (bits : List ℕ) (start : ℕ) where
   pub bits-over : (n i at : ℕ) (s : Marked ℕ) → n ≤ i → bitsMarked bits start (n - i) at s ≡ s
@@ -67,15 +79,44 @@ module _ (bits : List ℕ) (start : ℕ) where
   bits-none j z (suc m) i map zeros low high =
       let all : zeros + suc m ≡ zeros + 1 + m = omega arith in rw (bit-none bits j z i low (omega arith), all) (bits-none j z m (i + 1) map (zeros + 1) (omega arith) (omega arith))
 
-  -- one bit of byte j, as the code writes its block
-  pub byte-more : (j k : ℕ) (map : List ℕ) (zeros more a b y : ℕ) (on : Bool) (whole : Marked ℕ) → k < 8 → b ≡ getD bits j 0 → on ≡ bit k b → a ≡ start + (8 * j + k) → y ≡ pick on (marked (getD map a 0)) (getD map a 0) → more ≡ pick on 0 1
-      → bitsMarked bits start (8 - k) (8 * j + k) (record { map = map; figures = zeros }) ≡ whole → bitsMarked bits start (8 - (k + 1)) (8 * j + (k + 1)) (record { map = set map a y; figures = zeros + more }) ≡ whole
+  bits-map : (m i : ℕ) (s t : Marked ℕ) → s .map ≡ t .map → bitsMarked bits start m i s .map ≡ bitsMarked bits start m i t .map
   unfolding bitsMarked
-  byte-more j k map zeros more a b y on whole h read is-on is-a is-y is-more left =
+  bits-map zero i s t e = e
+  bits-map (suc m) i s t e = bits-map m (i + 1) _ _ (bit-map (bitAt bits i) (start + i) s t e)
+
+  bits-last : (m i : ℕ) (s : Marked ℕ) → bitsMarked bits start (suc m) i s ≡ bitMarked (bitAt bits (i + m)) (start + (i + m)) (bitsMarked bits start m i s)
+  unfolding bitsMarked
+  bits-last m i s = let one : suc m ≡ m + 1 = omega arith in ap (λ (n : ℕ). bitsMarked bits start n i s) one ∙ bits-then m 1 i s
+
+  -- of a byte's lowest m bits, those that are not set are counted
+  bits-counted : (j m : ℕ) (s : Marked ℕ) → m ≤ 8 → bitsMarked bits start m (8 * j) s .figures + onesIn m (getD bits j 0) ≡ s .figures + m
+  unfolding onesIn
+  bits-counted j zero s h = ap (λ (t : Marked ℕ). t .figures + 0) (bits-over 0 0 (8 * j) s (omega arith))
+  bits-counted j (suc m) s h =
+      let there : bit m (getD bits j 0) ≡ bitAt bits (8 * j + m) = bit-read-of bits j (getD bits j 0) (8 * j + m) m (bit m (getD bits j 0)) refl (omega arith) (omega arith) refl in
+      rw (bits-last m (8 * j) s, ← there) (omega (arith, bits-counted j m s (omega arith), bit-counted (bit m (getD bits j 0)) (start + (8 * j + m)) (bitsMarked bits start m (8 * j) s)))
+
+  -- one bit of byte j, as the code writes its block
+  pub byte-more : (j k : ℕ) (map : List ℕ) (a b y : ℕ) (on : Bool) (whole : List ℕ) → k < 8 → b ≡ getD bits j 0 → on ≡ bit k b → a ≡ start + (8 * j + k) → y ≡ pick on (marked (getD map a 0)) (getD map a 0)
+      → bitsMarked bits start (8 - k) (8 * j + k) (record { map = map; figures = 0 }) .map ≡ whole → bitsMarked bits start (8 - (k + 1)) (8 * j + (k + 1)) (record { map = set map a y; figures = 0 }) .map ≡ whole
+  unfolding bitsMarked
+  byte-more j k map a b y on whole h read is-on is-a is-y left =
       let one : 8 - k ≡ suc (8 - (k + 1)) = omega arith in
       let next : 8 * j + (k + 1) ≡ 8 * j + k + 1 = omega arith in
       let there : on ≡ bitAt bits (8 * j + k) = bit-read-of bits j b (8 * j + k) k on read (omega arith) (omega arith) is-on in
-      rw (next, is-y, is-more, is-a, ← bit-written on (start + (8 * j + k)) map zeros, there) (rw one at left)
+      let written : set map a y ≡ bitMarked (bitAt bits (8 * j + k)) (start + (8 * j + k)) (record { map = map; figures = 0 }) .map = rw (is-y, is-a, there) (sym (bit-written (bitAt bits (8 * j + k)) (start + (8 * j + k)) (record { map = map; figures = 0 }))) in
+      rw next (bits-map (8 - (k + 1)) (8 * j + k + 1) _ _ written ∙ rw one at left)
+
+  -- byte j, by its blocks and by how many of its bits are set
+  pub byte-marked : (j b ones : ℕ) (map after : List ℕ) (zeros r : ℕ) → b ≡ getD bits j 0 → after ≡ bitsMarked bits start 8 (8 * j) (record { map = map; figures = 0 }) .map → ones ≡ onesIn 8 b → r ≡ zeros + (8 - ones)
+      → record { map = after; figures = r } ≡ bitsMarked bits start 8 (8 * j) (record { map = map; figures = zeros })
+  byte-marked j b ones map after zeros r read e is-ones counted = λ i. record { map = blocks i; figures = count i }
+    where
+      blocks : after ≡ bitsMarked bits start 8 (8 * j) (record { map = map; figures = zeros }) .map
+      blocks = e ∙ bits-map 8 (8 * j) _ _ refl
+
+      count : r ≡ bitsMarked bits start 8 (8 * j) (record { map = map; figures = zeros }) .figures
+      count = omega (arith, bits-counted j 8 (record { map = map; figures = zeros }) (omega arith), rw read at is-ones, counted, ones-few 8 (getD bits j 0))
 
   pub whole-few : (m : ℕ) (map after : List ℕ) (r : ℕ) → record { map = after; figures = r } ≡ bitsMarked bits start m 0 (record { map = map; figures = 0 }) → r ≤ m
   whole-few m map after r e = omega (arith, ap (λ (s : Marked ℕ). s .figures) e, bits-few m 0 (record { map = map; figures = 0 }))

@@ -3,7 +3,8 @@ use mathlib.Core.Bool.{Bool, true, false}
 use mathlib.Core.List.{List}
 use Prim.Native.Nat.{ℕ, zero, suc, _+_, _-_, _*_, _/_, _≤_, _<_, min}
 use lib.ListN.{length}
-use Rattle.fields.specs.Fields.{bitAt}
+use Rattle.fields.specs.Choice.{pick}
+use Rattle.fields.specs.Fields.{bit, bitAt}
 use Rattle.block_map.specs.BlockMap.{Marked, update, marked}
 
 -- the block of one bit: a set bit marks it, a clear one is counted
@@ -15,6 +16,11 @@ bitMarked false a s = record { map = s .map; figures = s .figures + 1 }
 unfoldable pub bitsMarked : List ℕ → ℕ → ℕ → ℕ → Marked ℕ → Marked ℕ
 bitsMarked bits start zero i s = s
 bitsMarked bits start (suc left) i s = bitsMarked bits start left (i + 1) (bitMarked (bitAt bits i) (start + i) s)
+
+-- how many of the lowest n bits of a byte are set
+unfoldable pub onesIn : ℕ → ℕ → ℕ
+onesIn zero b = 0
+onesIn (suc n) b = onesIn n b + pick (bit n b) 1 0
 
 -- how many whole bytes of a chunk's bitmap there are whose blocks the container and the map have
 abbrev pub wholeBytes : ℕ → List ℕ → List ℕ → ℕ → ℕ → ℕ

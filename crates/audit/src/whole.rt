@@ -2,14 +2,23 @@
 use blocks::Container;
 use pool::BYTE_BITS;
 ghost use mathlib.Core.Path.{_≡_};
-ghost use Prim.Native.Nat.{_-_, _*_, _≤_, min};
+ghost use Prim.Native.Nat.{_+_, _-_, _*_, _≤_, min};
 ghost use lib.ListN.{length, getD};
 ghost use Rattle.fields.specs.Choice.{pick};
 ghost use Rattle.block_map.specs.BlockMap.{marked};
-ghost use Rattle.audit.specs.Bits.{bitsMarked, wholeBytes, InMap};
+ghost use Rattle.audit.specs.Bits.{bitsMarked, onesIn, wholeBytes, InMap};
 
 // A byte whose bits are all 1.
 const ONES: u8 = 0xff;
+
+// Every other bit of a byte, from the lowest.
+const EVEN_BITS: u64 = 0x55;
+
+// Every other pair of its bits.
+const EVEN_PAIRS: u64 = 0x33;
+
+// Its low four bits.
+const LOW_FOUR: u64 = 0x0f;
 
 fn least(a: u64, b: u64) -> u64
     ensures { λ r. ⌜ r ≡ min a b ⌝ }
@@ -44,29 +53,30 @@ fn with_bit(x: u8, set: bool) -> u8
     if set { block_map::with_mark(x) } else { x }
 }
 
-fn zero_of(set: bool) -> u64
-    ensures { λ r. ⌜ (r ≡ pick set 0 1) × (r ≤ 1) ⌝ }
+// How many bits of a byte are set: neighbours are added, first single bits, then pairs, then fours.
+fn ones(b: u8) -> u64
+    ensures { λ r. ⌜ r ≡ onesIn 8 b ⌝ }
 {
-    if set { 0 } else { 1 }
+    let x = b as u64;
+    let pairs = x - (x >> 1 & EVEN_BITS);
+    let fours = (pairs & EVEN_PAIRS) + (pairs >> 2 & EVEN_PAIRS);
+    (fours + (fours >> 4)) & LOW_FOUR
 }
 
-// The eight blocks of byte j, which is b, with no branch on a bit; answers how many bits were 0, after zeros.
-fn mark_eight(map: &mut [u8], bits: &[u8], start: u64, j: u64, b: u8, zeros: u64) -> u64
-    requires { ⌜ InMap (now map) (now bits) start j zeros × (b ≡ getD (now bits) j 0) ⌝ }
-    ensures { λ r. ⌜ record { map = now (map .exit); figures = r } ≡ bitsMarked (now (bits .entry)) start 8 (8 * j) (record { map = now (map .entry); figures = zeros }) ⌝ }
+// The eight blocks of byte j, which is b, with no branch on a bit.
+fn mark_eight(map: &mut [u8], bits: &[u8], start: u64, j: u64, b: u8)
+    requires { ⌜ (start + 8 * j + 8 ≤ length (now map)) × (b ≡ getD (now bits) j 0) ⌝ }
+    ensures { λ r. ⌜ now (map .exit) ≡ bitsMarked (now (bits .entry)) start 8 (8 * j) (record { map = now (map .entry); figures = 0 }) .map ⌝ }
 {
     let first = start + BYTE_BITS * j;
-    let mut clear = zeros;
     for k in 0..BYTE_BITS {
         let a = (first + k) as usize;
-        let set = pool::bit_of(b, k);
-        map[a] = with_bit(map[a], set);
-        clear += zero_of(set);
+        map[a] = with_bit(map[a], pool::bit_of(b, k));
     }
-    clear
 }
 
-// The same; a byte of ones is most of what isn't 0, and is marked as one word where the compiler sees its value.
+// The eight blocks of byte j; answers how many of its bits are 0, after zeros.
+// A byte of ones is most of what isn't 0, and is marked as one word where the compiler sees its value.
 fn mark_byte(map: &mut [u8], bits: &[u8], start: u64, j: u64, zeros: u64) -> u64
     requires { ⌜ InMap (now map) (now bits) start j zeros ⌝ }
     ensures { λ r. ⌜ record { map = now (map .exit); figures = r } ≡ bitsMarked (now (bits .entry)) start 8 (8 * j) (record { map = now (map .entry); figures = zeros }) ⌝ }
@@ -74,9 +84,13 @@ fn mark_byte(map: &mut [u8], bits: &[u8], start: u64, j: u64, zeros: u64) -> u64
     let at = j as usize;
     let b = bits[at];
     if b == ONES {
-        return mark_eight(map, bits, start, j, ONES, zeros);
+        mark_eight(map, bits, start, j, ONES);
+        return zeros;
     }
-    mark_eight(map, bits, start, j, b, zeros)
+    // Counted first: two ways that begin alike have their first block read before the test, and neither is one word then.
+    let after = zeros + (BYTE_BITS - ones(b));
+    mark_eight(map, bits, start, j, b);
+    after
 }
 
 // The first n bytes; answers how many bits were 0. A byte 0 touches nothing: a page of the map never written costs no memory.
