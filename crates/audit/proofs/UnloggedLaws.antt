@@ -1,20 +1,19 @@
 -- Laws of runs that log nothing.
-use mathlib.Core.Bool.{Bool, true, false, not, _&&_, true≢false}
+use mathlib.Core.Bool.{Bool, true, false, not, _&&_}
 use mathlib.Core.List.{List}
 use mathlib.Core.Path.{_≡_, refl, sym, ap, _∙_}
 use Prim.Native.Nat.{ℕ, zero, suc, _+_, _-_, _^_, _≤_, _<_}
 use native.Mathlib.Omega.{arith}
 use borrow.Author.Tests.{leb-true}
 use lib.Dec.{leb}
-use lib.Seq.{getD-set-other}
-use Rattle.blocks.specs.Reads.{Reads, given, run, _>>=_}
+use Rattle.blocks.specs.Reads.{given, run, _>>=_}
 use Rattle.blocks.specs.declared.Container.{Container}
 use Rattle.blocks.proofs.Laws.{and-left, and-right, then-given, need-true}
 use Rattle.nodes.specs.Node.{Entry}
 use Rattle.queue.specs.Queue.{runOf}
 use Rattle.queue.specs.declared.Run.{Run}
-use Rattle.block_map.specs.BlockMap.{Marked, Kept, Unlogged, update, usedAt, used}
-use Rattle.block_map.proofs.Laws.{update-set, kept-same, kept-then, kept-update}
+use Rattle.block_map.specs.BlockMap.{Kept, Unlogged, update, usedAt, used}
+use Rattle.block_map.proofs.Laws.{update-other, was-made, kept-same, kept-then, kept-update}
 use Rattle.pool.specs.Pool.{Pool, poolMarked}
 use Rattle.audit.specs.Audit.{unless, enter, auditQueuedFrom, auditQueued}
 use Rattle.audit.specs.Unlogged.{allUnused, usedFrom}
@@ -24,7 +23,7 @@ use Rattle.audit.proofs.Laws.{none-left, one-less}
 -- the use of block a says nothing of a later one
 later-same : (c : Container) (map : List ℕ) (a b : ℕ) → a < b → usedAt c (update used a map) b ≡ usedAt c map b
 unfolding usedAt
-later-same c map a b h = rw (update-set used a map, getD-set-other map a b _ 0 (λ e. omega arith)) refl
+later-same c map a b h = rw (update-other used a b map (λ e. omega arith)) refl
 
 module _ (c : Container) (p : Pool) where
   all-later-same : (map : List ℕ) (a left b : ℕ) → a < b → allUnused c p (update used a map) left b ≡ allUnused c p map left b
@@ -60,20 +59,12 @@ unfolding usedFrom
 kept-run count zero a map h = kept-same count map
 kept-run count (suc left) a map h = kept-then _ _ _ _ (kept-update count used a map (omega arith)) (kept-run count left (a + 1) (update used a map) (omega arith))
 
--- a step that was not made
-pub not-made : {F : Type 0} {defined : Marked F → Reads (Marked F)} (f : ℕ → List ℕ) (count : ℕ) (map : List ℕ) → Unlogged f count false map map defined
-not-made f count map = record { made = λ e figures. absurd (true≢false (sym e)); left = λ e. refl; kept = kept-same count map }
-
 -- an entry's step, where its run is there and the blocks are unused and marked
 pub entry-made : (f : ℕ → List ℕ) (c : Container) (p : Pool) (e : Entry) (x : Run) (map after : List ℕ) → run f (runOf e) ≡ given x → leb (x .start + x .count) (c .count) ≡ true
     → allUnused c p map (x .count) (x .start) ≡ true → after ≡ usedFrom (x .count) (x .start) map → Unlogged f (c .count) true map after (λ s. auditQueued c p s e)
 unfolding auditQueued
-entry-made f c p e x map after q t h used = rw used (
-    record {
-      made = λ _ figures. then-given f _ _ x q ∙ need-true f _ _ _ t ∙ all-unlogged c p f (x .count) (x .start) map figures h;
-      left = λ e. absurd (true≢false e);
-      kept = kept-run (c .count) (x .count) (x .start) map (leb-true _ _ t);
-    })
+entry-made f c p e x map after q t h used =
+    rw used (was-made (λ figures. then-given f _ _ x q ∙ need-true f _ _ _ t ∙ all-unlogged c p f (x .count) (x .start) map figures h) (kept-run (c .count) (x .count) (x .start) map (leb-true _ _ t)))
 
 -- the blocks of a run from place i on, of n
 module _ (start n i : ℕ) where

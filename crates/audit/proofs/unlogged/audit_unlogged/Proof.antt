@@ -1,4 +1,5 @@
-use Rattle.audit.proofs.UnloggedLaws.{run-fits, not-made, entry-made}
+use Rattle.block_map.proofs.Laws.{not-made}
+use Rattle.audit.proofs.UnloggedLaws.{run-fits, entry-made}
 use Rattle.queue.specs.Answers.{ranAs}
 use borrow.Author.Tests.{not-false}
 use mathlib.Core.Path.{sym, ap, _∙_}
@@ -19,7 +20,7 @@ has-run-requires : tie.Need-has-run-requires
 has-run-requires c κs = search needs
 
 returns : tie.Need-returns
-returns c = not-made _ _ _
+returns c = not-made
 
 all-unused-requires : tie.Need-all-unused-requires
 all-unused-requires c κs = run-fits _ _ (sym (c .before .before .has-run .ensures) ∙ not-false _ (c .before .if1 .left)) (search needs)
@@ -28,13 +29,13 @@ same-length : tie.Need-same-length
 same-length c = search needs
 
 returns-2 : tie.Need-returns-2
-returns-2 c = not-made _ _ _
+returns-2 c = not-made
 
 use-run-requires : tie.Need-use-run-requires
 use-run-requires c κs = run-fits _ _ (sym (c .before .before .before .before .before .has-run .ensures) ∙ not-false _ (c .before .before .before .before .if1 .left)) (search needs)
 
 returns-3 : tie.Need-returns-3
-returns-3 c = not-made _ _ _
+returns-3 c = not-made
 
 same-length-2 : tie.Need-same-length-2
 same-length-2 c = search needs
