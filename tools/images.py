@@ -42,24 +42,32 @@ def needed(fields, word):
     return fields[word]
 
 
+def number(text):
+    n = int(text)
+    if not 0 <= n < 1 << 64:
+        raise Fault(f'{text} is no number of 64 bits')
+    return n
+
+
 def image_of(item, fields, bases):
-    length = int(needed(fields, 'length'))
+    length = number(needed(fields, 'length'))
     if 'base' in fields and fields['base'] not in bases:
         raise Fault(f"no base {fields['base']} before it")
     image = bytearray(bases.get(fields.get('base'), b'')[:length].ljust(length, b'\0'))
     for rest in (rest for word, rest in item if word == 'at'):
         at, data = rest.split()
         part = bytes.fromhex(data)
-        if int(at) + len(part) > length:
+        at = number(at)
+        if at + len(part) > length:
             raise Fault(f'bytes at {at} past its end')
-        image[int(at):int(at) + len(part)] = part
+        image[at:at + len(part)] = part
     return bytes(image)
 
 
 def answered(fields, image):
     """An image with its answer and the map that is left."""
-    answer = [int(n) for n in needed(fields, 'answer').split()]
-    length, left = int(needed(fields, 'map')), bytes.fromhex(needed(fields, 'left'))
+    answer = [number(n) for n in needed(fields, 'answer').split()]
+    length, left = number(needed(fields, 'map')), bytes.fromhex(needed(fields, 'left'))
     if len(answer) != NUMBERS:
         raise Fault(f'an answer of {len(answer)} numbers')
     if len(left) != length:

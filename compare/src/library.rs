@@ -41,7 +41,7 @@ mod linked {
         if sum.finish().to_string() == env!("SPACE_CHECK_SUM") {
             Ok(())
         } else {
-            Err(io::Error::other(format!("{path} has changed since it was linked: build again")))
+            Err(io::Error::other(format!("{path} has changed since it was linked: touch it and build again")))
         }
     }
 
