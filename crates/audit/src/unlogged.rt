@@ -14,18 +14,23 @@ ghost use Rattle.audit.specs.Audit.{auditQueued};
 ghost use Rattle.audit.specs.Answers.{poolAt};
 ghost use Rattle.audit.specs.Unlogged.{allUnused, usedFrom};
 
-// Whether each block of a run is unused, and marked in the pool's bitmap.
+// Whether each block of a run is unused, and marked in the pool's bitmap. The bitmap's block with the first of their bits is found once,
+// since it nearly always has all of them.
 fn all_unused(image: &[u8], map: &[u8], container: Container, p: PoolPlace, run: Run) -> bool
     requires { ⌜ run .start + run .count < 2 ^ 64 ⌝ }
     ensures { λ r. ⌜ r ≡ allUnused container (poolAt (now (image .entry)) container p) (now (map .entry)) (run .count) (run .start) ⌝ }
 {
+    let size = container.size;
+    let k = pool::block_of_bit(size, pool::pool_index(run.start, p.base));
+    let part = pool::bitmap_block(image, container, p, k);
+    let first = k * size;
     let mut i = 0;
     while i < run.count {
         let a = run.start + i;
         if block_map::used_at(map, container, a) {
             return false;
         }
-        if !pool::pool_marked(image, container, p, a) {
+        if !pool::marked_near(image, container, p, part, first, a) {
             return false;
         }
         i += 1;

@@ -1,19 +1,23 @@
 -- Laws of the pool's bitmap in place, and of what is counted over it.
 use mathlib.Core.Path.{_≡_, refl, sym, ap, _∙_}
 use mathlib.Core.Bool.{Bool, true, false, not, _&&_}
-use mathlib.Core.List.{List}
+use mathlib.Core.List.{List, []}
 use Prim.Native.Nat.{ℕ, zero, suc, _+_, _-_, _*_, _/_, _%_, _^_, _≤_, _<_}
-use native.Mathlib.Nat.{add-zero, zero-add, suc-add, mul-zero, zero-div, div-lt-iff-lt-mul, le-div-iff-mul-le}
+use native.Mathlib.Nat.{add-zero, zero-add, suc-add, mul-zero, mul-le-mul-right, zero-div, mul-add-div-right, div-eq-of-lt, div-add-mod', div-mul-le-self, mul-add-mod-self-right, mod-eq-of-lt, mod-lt}
+use native.Mathlib.Decide.{decLe}
 use native.Mathlib.Omega.{arith}
-use lib.ListN.{length, getD, List·getD-eq-default}
+use lib.Dec.{ltb}
+use lib.ListN.{length, getD, length-take, List·getD-eq-default}
+use borrow.Author.Tests.{lt-ltb, le-ltb}
 use Rattle.fields.specs.Choice.{pick}
 use Rattle.fields.specs.Fields.{bit, bitAt}
 use Rattle.fields.proofs.Laws.{below-limit}
+use Rattle.blocks.specs.Blocks.{blockOf}
 use Rattle.blocks.specs.declared.Container.{Container}
 use Rattle.block_map.specs.BlockMap.{usedAt}
 use Rattle.pool.specs.Pool.{Pool, poolIndex, poolMarked, unusedFrom}
 use Rattle.pool.specs.Unused.{unusedOne}
-use Rattle.pool.specs.Place.{ringPlace, bitmapBlock, bitmapByte, bitmapBytes, bitmapIn}
+use Rattle.pool.specs.Place.{ringPlace, bitmapBlock, blockIn, bitmapByte, bitmapBytes, bitmapIn, PartOf}
 use Rattle.pool.specs.declared.PoolPlace.{PoolPlace}
 
 -- as many bytes as the bitmap's blocks have, each where its block is
@@ -39,18 +43,57 @@ module _ (f : ℕ → List ℕ) (size : ℕ) (p : PoolPlace) where
   pub bitmap-past : (j : ℕ) → p .bitmaps * size ≤ j → getD (bitmapIn f size p) j 0 ≡ 0
   bitmap-past j h = List·getD-eq-default (bitmapIn f size p) 0 (omega (arith, bitmap-length))
 
-  -- a byte by the number of its block
   pub byte-none : (j : ℕ) → size ≡ 0 → getD (bitmapIn f size p) j 0 ≡ 0
   byte-none j e = bitmap-past j (rw (e, mul-zero) (omega arith))
 
-  module _ (j : ℕ) (some : 0 < size) where
-    pub byte-past : p .bitmaps ≤ j / size → getD (bitmapIn f size p) j 0 ≡ 0
-    byte-past h = bitmap-past j (le-div-iff-mul-le some .0 h)
+  -- a block by its number
+  pub block-past : (k : ℕ) → p .bitmaps ≤ k → blockIn f size p k ≡ []
+  unfolding blockIn
+  block-past k h = rw (le-ltb k (p .bitmaps) h) refl
 
-    pub byte-there : j / size < p .bitmaps → (k : ℕ) → k ≡ ringPlace f size p (j / size) → (b : List ℕ) → b ≡ f (p .ring + k)
-        → getD (bitmapIn f size p) j 0 ≡ getD b (j % size) 0
-    unfolding bitmapByte bitmapBlock
-    byte-there h k q b r = bitmap-there j (div-lt-iff-lt-mul some .0 h) ∙ rw (r, q) refl
+  pub block-there : (k : ℕ) → k < p .bitmaps → (at : ℕ) → at ≡ ringPlace f size p k → (b : List ℕ) → b ≡ f (p .ring + at) → b ≡ blockIn f size p k
+  unfolding blockIn bitmapBlock
+  block-there k h at q b r = rw (r, q, lt-ltb k (p .bitmaps) h) refl
+
+  -- byte t of block k
+  pub block-byte : (k t : ℕ) → t < size → getD (blockIn f size p k) t 0 ≡ getD (bitmapIn f size p) (k * size + t) 0
+  unfolding bitmapByte bitmapBlock
+  block-byte k t h = go (decLe (p .bitmaps) k)
+    where
+      go : Dec (p .bitmaps ≤ k) → getD (blockIn f size p k) t 0 ≡ getD (bitmapIn f size p) (k * size + t) 0
+      go (yes past) = rw (block-past k past, bitmap-past (k * size + t) (omega (arith, mul-le-mul-right size past))) refl
+      go (no there) =
+          let below : k + 1 ≤ p .bitmaps = omega arith in
+          let inside : k * size + t < p .bitmaps * size = omega (arith, mul-le-mul-right size below) in
+          rw (bitmap-there (k * size + t) inside, mul-add-div-right {m = size} (omega arith) k t, div-eq-of-lt h, add-zero k, mul-add-mod-self-right k size t, mod-eq-of-lt h, ← block-there k (omega arith) _ refl _ refl) refl
+
+  -- byte j, by its block
+  pub byte-in : (j : ℕ) → 0 < size → (b : List ℕ) → b ≡ blockIn f size p (j / size) → getD b (j % size) 0 ≡ getD (bitmapIn f size p) j 0
+  byte-in j some b e = rw e (block-byte (j / size) (j % size) (mod-lt j some) ∙ rw (div-add-mod' j size) refl)
+
+-- the block of a bit starts no later than the bit's byte
+pub block-fits : (size i k : ℕ) → k ≡ i / 8 / size → i < 2 ^ 64 → k * size < 2 ^ 64
+block-fits size i k e h = rw e (omega (arith, div-mul-le-self (i / 8) size))
+
+-- a block of an image is a part of the bitmap
+module _ (image : List ℕ) (size : ℕ) (p : PoolPlace) (k : ℕ) where
+  block-most : length (blockIn (blockOf image size) size p k) ≤ size
+  unfolding blockIn bitmapBlock blockOf
+  block-most = go (ltb k (p .bitmaps))
+    where
+      go : (t : Bool) → length (pick t (bitmapBlock (blockOf image size) size p k) []) ≤ size
+      go true = simp length-take (omega arith)
+      go false = omega arith
+
+  pub block-part : (first : ℕ) → first ≡ k * size → (b : List ℕ) → b ≡ blockIn (blockOf image size) size p k → PartOf b first (bitmapIn (blockOf image size) size p)
+  block-part first q b e = rw (q, e) (record { same = λ j h. block-byte (blockOf image size) size p k j (omega (arith, block-most)) })
+
+-- no part at all, and a byte of the part that is at hand
+pub none-part : (b whole : List ℕ) → b ≡ [] → PartOf b 0 whole
+none-part b whole e = rw e (record { same = λ j h. absurd (omega arith) })
+
+pub part-byte : (part whole : List ℕ) (first j : ℕ) → PartOf part first whole → first ≤ j → j - first < length part → getD part (j - first) 0 ≡ getD whole j 0
+part-byte part whole first j h low there = h .same (j - first) there ∙ ap (λ n. getD whole n 0) (omega arith)
 
 -- the block at a place of the pool, and the place of that block
 pub index-of : (base i : ℕ) → i < 2 ^ 64 → poolIndex (base + i) base ≡ i

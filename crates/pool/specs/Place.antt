@@ -1,7 +1,10 @@
 -- The pool where it stands: its bitmap is blocks of a ring, found through the manager's list of indices and read in place.
+use mathlib.Core.Path.{_≡_}
 use mathlib.Core.List.{List, [], _∷_}
-use Prim.Native.Nat.{ℕ, zero, suc, _+_, _*_, _/_, _%_}
-use lib.ListN.{getD}
+use Prim.Native.Nat.{ℕ, zero, suc, _+_, _*_, _/_, _%_, _<_}
+use lib.Dec.{ltb}
+use lib.ListN.{length, getD}
+use Rattle.fields.specs.Choice.{pick}
 use Rattle.fields.specs.Fields.{num}
 use Rattle.manager.specs.Place.{placed}
 use Rattle.pool.specs.Pool.{Pool}
@@ -14,6 +17,10 @@ ringPlace f size p i = num 2 (placed f size (p .manager)) (p .indices + 2 * i)
 unfoldable pub bitmapBlock : (ℕ → List ℕ) → ℕ → PoolPlace → ℕ → List ℕ
 bitmapBlock f size p i = f (p .ring + ringPlace f size p i)
 
+-- the same; none past the bitmap's end
+unfoldable pub blockIn : (ℕ → List ℕ) → ℕ → PoolPlace → ℕ → List ℕ
+blockIn f size p k = pick (ltb k (p .bitmaps)) (bitmapBlock f size p k) []
+
 -- byte j of the bitmap
 unfoldable pub bitmapByte : (ℕ → List ℕ) → ℕ → PoolPlace → ℕ → ℕ
 bitmapByte f size p j = getD (bitmapBlock f size p (j / size)) (j % size) 0
@@ -25,6 +32,10 @@ bitmapBytes f size p (suc left) j = bitmapByte f size p j ∷ bitmapBytes f size
 
 unfoldable pub bitmapIn : (ℕ → List ℕ) → ℕ → PoolPlace → List ℕ
 bitmapIn f size p = bitmapBytes f size p (p .bitmaps * size) 0
+
+-- a part of a bitmap: its bytes from number first on
+pub record PartOf (part : List ℕ) (first : ℕ) (whole : List ℕ) : Type 0 where
+  pub same : (j : ℕ) → j < length part → getD part j 0 ≡ getD whole (first + j) 0
 
 abbrev pub poolIn : (ℕ → List ℕ) → ℕ → PoolPlace → Pool
 poolIn f size p = record { base = p .base; blocks = p .blocks; bits = bitmapIn f size p }

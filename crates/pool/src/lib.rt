@@ -5,7 +5,7 @@ use blocks::Seen;
 use manager::Manager;
 use manager::offsets;
 ghost use mathlib.Core.Path.{_≡_};
-ghost use Prim.Native.Nat.{_+_, _-_, _*_, _<_, _≤_};
+ghost use Prim.Native.Nat.{_+_, _-_, _*_, _/_, _<_, _≤_};
 ghost use lib.Dec.{leb};
 ghost use lib.ListN.{getD};
 ghost use Rattle.fields.specs.Fields.{bit, bitAt};
@@ -15,7 +15,7 @@ ghost use Rattle.blocks.specs.Answers.{seenAs};
 ghost use Rattle.block_map.specs.BlockMap.{usedAt};
 ghost use Rattle.manager.specs.Place.{placed, bytesOf};
 ghost use Rattle.pool.specs.Pool.{loadPool, poolIndex, poolMarked, unusedFrom};
-ghost use Rattle.pool.specs.Place.{bitmapIn, poolIn};
+ghost use Rattle.pool.specs.Place.{blockIn, bitmapIn, poolIn, PartOf};
 ghost use Rattle.pool.specs.Unused.{unusedOne, byteEnd, OneByte};
 ghost use Rattle.pool.specs.Load.{placeIn, places, BitmapSeen, BitmapsSeen, poolFrom};
 
@@ -49,6 +49,28 @@ fn ring_block(image: &[u8], size: u64, ring: u64, k: u64) -> &[u8]
     blocks::block(image, size, ring + k)
 }
 
+// Which block of a bitmap has bit i.
+pub fn block_of_bit(size: u64, i: u64) -> u64
+    ensures { λ r. ⌜ r ≡ i / 8 / size ⌝ }
+{
+    if size == 0 {
+        return 0;
+    }
+    i / BYTE_BITS / size
+}
+
+// Block k of the bitmap; empty past its end.
+pub fn bitmap_block(image: &[u8], container: Container, p: PoolPlace, k: u64) -> &[u8]
+    ensures { λ r. ⌜ now r ≡ blockIn (blockOf (now (image .entry)) (container .size)) (container .size) p k ⌝ }
+{
+    if p.bitmaps <= k {
+        return fields::part_of(image, image.len(), 0);
+    }
+    let m = p.manager;
+    let at = manager::lists::pool_index(image, container, m, p.indices, k);
+    ring_block(image, container.size, p.ring, at)
+}
+
 // Byte j of the bitmap, or 0 past its end.
 fn bitmap_byte(image: &[u8], container: Container, p: PoolPlace, j: u64) -> u8
     ensures { λ r. ⌜ r ≡ getD (bitmapIn (blockOf (now (image .entry)) (container .size)) (container .size) p) j 0 ⌝ }
@@ -57,18 +79,34 @@ fn bitmap_byte(image: &[u8], container: Container, p: PoolPlace, j: u64) -> u8
     if size == 0 {
         return 0;
     }
-    let i = j / size;
-    if p.bitmaps <= i {
-        return 0;
-    }
-    let m = p.manager;
-    let k = manager::lists::pool_index(image, container, m, p.indices, i);
-    let block = ring_block(image, size, p.ring, k);
+    let block = bitmap_block(image, container, p, j / size);
     let at = (j % size) as usize;
     if block.len() <= at {
         return 0;
     }
     block[at]
+}
+
+// The same, where a part of the bitmap is at hand: its bytes from number first on.
+fn byte_near(
+    image: &[u8],
+    container: Container,
+    p: PoolPlace,
+    part: &[u8],
+    first: u64,
+    j: u64,
+) -> u8
+    requires { ⌜ PartOf (now part) first (bitmapIn (blockOf (now image) (container .size)) (container .size) p) ⌝ }
+    ensures { λ r. ⌜ r ≡ getD (bitmapIn (blockOf (now (image .entry)) (container .size)) (container .size) p) j 0 ⌝ }
+{
+    if first <= j {
+        let at = j - first;
+        if at < part.len() as u64 {
+            let k = at as usize;
+            return part[k];
+        }
+    }
+    bitmap_byte(image, container, p, j)
 }
 
 // Bit k of a byte of a bitmap, the lowest first.
@@ -80,24 +118,49 @@ pub fn bit_of(b: u8, k: u64) -> bool
     b >> shift & 1 == 1
 }
 
-// Bit i of the bitmap.
-fn bit_in(image: &[u8], container: Container, p: PoolPlace, i: u64) -> bool
+// Bit i of the bitmap, of which a part is at hand.
+fn bit_near(
+    image: &[u8],
+    container: Container,
+    p: PoolPlace,
+    part: &[u8],
+    first: u64,
+    i: u64,
+) -> bool
+    requires { ⌜ PartOf (now part) first (bitmapIn (blockOf (now image) (container .size)) (container .size) p) ⌝ }
     ensures { λ r. ⌜ r ≡ bitAt (bitmapIn (blockOf (now (image .entry)) (container .size)) (container .size) p) i ⌝ }
 {
-    let b = bitmap_byte(image, container, p, i / BYTE_BITS);
+    let b = byte_near(image, container, p, part, first, i / BYTE_BITS);
     bit_of(b, i % BYTE_BITS)
 }
 
-// Whether block a is in the pool, and its bit is 1.
-pub fn pool_marked(image: &[u8], container: Container, p: PoolPlace, a: u64) -> bool
+// Whether block a is in the pool, and its bit is 1, where a part of the bitmap is at hand: for blocks whose bits are mostly in one block of
+// it, which is then found once.
+pub fn marked_near(
+    image: &[u8],
+    container: Container,
+    p: PoolPlace,
+    part: &[u8],
+    first: u64,
+    a: u64,
+) -> bool
+    requires { ⌜ PartOf (now part) first (bitmapIn (blockOf (now image) (container .size)) (container .size) p) ⌝ }
     ensures { λ r. ⌜ r ≡ poolMarked (poolIn (blockOf (now (image .entry)) (container .size)) (container .size) p) a ⌝ }
 {
     let i = pool_index(a, p.base);
     if i < p.blocks {
-        bit_in(image, container, p, i)
+        bit_near(image, container, p, part, first, i)
     } else {
         false
     }
+}
+
+// The same, with no part at hand.
+pub fn pool_marked(image: &[u8], container: Container, p: PoolPlace, a: u64) -> bool
+    ensures { λ r. ⌜ r ≡ poolMarked (poolIn (blockOf (now (image .entry)) (container .size)) (container .size) p) a ⌝ }
+{
+    let none = fields::part_of(image, image.len(), 0);
+    marked_near(image, container, p, none, 0, a)
 }
 
 // Where the manager's fields put the pool.
