@@ -7,7 +7,7 @@ use crate::draft::Draft;
 use crate::fields::{manager, superblock};
 use crate::image::Image;
 use crate::model::{HIGHEST_COUNT, WALK_LEVELS};
-use crate::recipes::{area_to_end, chain_of, queue_entry, repeats_of};
+use crate::recipes::{area_to_end, chain_of, queue_entry, queue_ghost, repeats_of};
 use crate::refusal::Refusal;
 use crate::rng::Rng;
 use crate::seeds::Base;
@@ -53,6 +53,12 @@ pub const BOUNDARIES: &[Boundary] = &[
         far: |d| superblock_count(d, d.survey.count + 1),
     },
     Boundary {
+        name: "taken count",
+        refusal: Refusal::CountDiffers,
+        near: |d| count_of_superblock(d, 1),
+        far: |d| count_of_superblock(d, 0),
+    },
+    Boundary {
         name: "address blocks",
         refusal: Refusal::AddressBlocks,
         near: |d| address_blocks(d, 0),
@@ -75,6 +81,12 @@ pub const BOUNDARIES: &[Boundary] = &[
         refusal: Refusal::QueuedPastCount,
         near: |d| queued(d, d.survey.count, 0),
         far: |d| queued(d, d.survey.count + 1, 0),
+    },
+    Boundary {
+        name: "queued ghost",
+        refusal: Refusal::QueuedPastCount,
+        near: |d| queue_ghost(d, Role::PoolQueueNode, d.survey.count - 1),
+        far: |d| queue_ghost(d, Role::PoolQueueNode, d.survey.count),
     },
     Boundary { name: "nodes", refusal: Refusal::Walk, near: |d| repeats_of(d, 0), far: |d| repeats_of(d, 1) },
     Boundary {
@@ -121,6 +133,16 @@ fn map(d: &mut Draft, missing: usize) -> Option<String> {
 fn superblock_count(d: &mut Draft, count: u64) -> Option<String> {
     d.superblocks().into_iter().for_each(|sb| d.rewrite(sb, &[(superblock::BLOCK_COUNT, count)]));
     Some(format!("superblocks state {count} of {} blocks", d.survey.count))
+}
+
+/// One superblock alone states another count, by its place in the order in which they are tried.
+fn count_of_superblock(d: &mut Draft, place: usize) -> Option<String> {
+    let superblocks = d.superblocks();
+    if superblocks.len() < 2 {
+        return None;
+    }
+    d.rewrite(superblocks[place], &[(superblock::BLOCK_COUNT, d.survey.count - 1)]);
+    Some(format!("superblock {place} states {} of {} blocks", d.survey.count - 1, d.survey.count))
 }
 
 fn address_blocks(d: &mut Draft, blocks: u64) -> Option<String> {

@@ -8,7 +8,7 @@ mod tree;
 
 use crate::draft::Draft;
 pub use checkpoint::area_to_end;
-pub use tree::{chain_of, queue_entry, repeats_of};
+pub use tree::{chain_of, queue_entry, queue_ghost, repeats_of};
 
 /// Says what it made, or nothing where the container has no place for it.
 type Recipe = fn(&mut Draft) -> Option<String>;

@@ -151,3 +151,16 @@ pub fn queue_entry(d: &mut Draft, role: Role, start: u64, length: u64) -> Option
     d.rewrite(object, &[(address, start), (count, length)]);
     Some(format!("{}: {length} blocks from {start} of {}", role.name(), d.survey.count))
 }
+
+/// A ghost of a queue set to name block `a`.
+pub fn queue_ghost(d: &mut Draft, role: Role, a: u64) -> Option<String> {
+    // A ghost's address is the last field of its entry: a slot, or nothing, follows it.
+    let names = |o: &Object, i: usize| o.fields.get(i).map(|f| f.name);
+    let is_ghost = |o: &Object, i: usize| {
+        names(o, i) == Some(queue::ADDRESS.name) && names(o, i + 1).is_none_or(|next| next != queue::COUNT.name)
+    };
+    let ghost = |o: &Object| (0..o.fields.len()).find(|&i| is_ghost(o, i)).map(|i| o.fields[i]);
+    let (object, address) = d.survey.with_role(role).into_iter().find_map(|o| Some((o, ghost(o)?)))?;
+    d.rewrite(object, &[(address, a)]);
+    Some(format!("{}: a ghost of block {a} of {}", role.name(), d.survey.count))
+}
