@@ -3,7 +3,7 @@
  *     rt staticlib interface
  *     cc -o target/example interface/example.c target/staticlib/libinterface.a
  *
- * Exit status: 0 consistent, 1 inconsistent or refused, 2 where the image can't be read. */
+ * Exit status: 0 consistent, 1 inconsistent, 2 refused, 3 where the image can't be read. */
 #include <fcntl.h>
 #include <inttypes.h>
 #include <stdio.h>
@@ -14,19 +14,24 @@
 
 #include "space_check.h"
 
-enum { BLOCK_COUNT = 40 }; /* where block 0 states it, in 8 bytes */
+enum {
+    BLOCK_COUNT = 40,   /* where block 0 states it, in 8 bytes */
+    LEAST_BLOCK = 4096, /* no container has smaller blocks */
+    CONSISTENT = 1,     /* the verdict */
+};
 
-#define MOST_BLOCKS UINT32_MAX /* a container with more is refused */
+enum status { SOUND, INCONSISTENT, REFUSED, UNREADABLE };
 
-/* How long a map the pass may need: the block count, as far as it isn't refused. */
+/* How long a map the pass may need: the block count, as far as the image can have so many. One that can't is refused
+ * before the map is looked at. */
 static size_t map_length(const uint8_t *image, size_t length)
 {
-    uint64_t count = 0;
+    uint64_t count = 0, most = length / LEAST_BLOCK;
     if (length < BLOCK_COUNT + 8)
         return 0;
     for (int i = 7; i >= 0; i--)
         count = count << 8 | image[BLOCK_COUNT + i];
-    return count < MOST_BLOCKS ? count : MOST_BLOCKS;
+    return count < most ? count : most;
 }
 
 int main(int argc, char **argv)
@@ -40,33 +45,33 @@ int main(int argc, char **argv)
 
     if (argc != 2) {
         fprintf(stderr, "usage: example IMAGE\n");
-        return 2;
+        return UNREADABLE;
     }
     fd = open(argv[1], O_RDONLY);
     if (fd < 0 || fstat(fd, &file) < 0) {
         perror(argv[1]);
-        return 2;
+        return UNREADABLE;
     }
     length = file.st_size;
     if (length > 0)
         image = mmap(NULL, length, PROT_READ, MAP_PRIVATE, fd, 0);
     if (image == MAP_FAILED) {
         perror(argv[1]);
-        return 2;
+        return UNREADABLE;
     }
     blocks = map_length(image, length);
     map = calloc(blocks + 1, 1);
     if (map == NULL) {
         perror("block map");
-        return 2;
+        return UNREADABLE;
     }
 
     space_check(image, length, map, blocks, figures, SPACE_CHECK_FIGURES);
 
     if (figures[SPACE_CHECK_REFUSAL] != 0) {
         printf("refused %" PRIu64 "\n", figures[SPACE_CHECK_REFUSAL]);
-        return 1;
+        return REFUSED;
     }
     printf("xid %" PRIu64 ", verdict %" PRIu64 "\n", figures[SPACE_CHECK_XID], figures[SPACE_CHECK_VERDICT]);
-    return figures[SPACE_CHECK_VERDICT] == 1 ? 0 : 1;
+    return figures[SPACE_CHECK_VERDICT] == CONSISTENT ? SOUND : INCONSISTENT;
 }

@@ -1,20 +1,20 @@
-// Links the archive that `rt staticlib interface` writes.
+//! Links the archive that `rt staticlib interface` writes.
+
 use std::path::Path;
 
 fn main() {
-    let archive =
-        Path::new(env!("CARGO_MANIFEST_DIR")).join("../../target/staticlib/libinterface.a");
+    println!("cargo:rerun-if-env-changed=SPACE_CHECK_DIR");
+    let root = Path::new(env!("CARGO_MANIFEST_DIR")).join("../..");
+    let dir = root.join(std::env::var_os("SPACE_CHECK_DIR").unwrap_or_else(|| "target/staticlib".into()));
+    let archive = dir.join("libinterface.a");
     println!("cargo:rerun-if-changed={}", archive.display());
     if !archive.exists() {
         eprintln!(
-            "{} isn't there: run `rt staticlib interface` first",
+            "{} isn't there: run `rt staticlib interface`, or set SPACE_CHECK_DIR to its folder",
             archive.display()
         );
         std::process::exit(1);
     }
-    println!(
-        "cargo:rustc-link-search=native={}",
-        archive.parent().unwrap().display()
-    );
+    println!("cargo:rustc-link-search=native={}", dir.display());
     println!("cargo:rustc-link-lib=static=interface");
 }

@@ -1,24 +1,46 @@
-//! Safe calls of the proved space check (`interface/space_check.h` says what each buffer holds).
+//! Safe calls of the proved space check of an APFS container.
+//!
+//! [`check`] lends an image and a block map to the one function of `interface/space_check.h`, whose answer and map are
+//! proved for every image and every map. What it leaves comes back as a [`Report`], or as one of 22 [`Refusal`]s.
+//!
+//! ```
+//! # let image = include_bytes!("../../../crates/listing/stdin");
+//! let mut map = vec![0; space_check::blocks(image)];
+//! match space_check::check(image, &mut map) {
+//!     Ok(report) => print!("{}", report.listing("disk.img")),
+//!     Err(refusal) => println!("refused {}: {refusal}", refusal.number()),
+//! }
+//! ```
+//!
+//! The archive is looked for where `rt staticlib interface` writes it, in target/staticlib of the repository; another
+//! folder is named by the environment variable `SPACE_CHECK_DIR` when this crate is built.
+//!
+//! An image may be a file that is mapped. Then nothing may change the file during the call, and a read that the disk
+//! refuses ends the process by a signal (`SIGBUS`): the command `apfs-space-check` runs each check in a process of its own
+//! for that reason.
+
+mod listing;
+mod map;
+mod names;
+mod report;
+
+pub use listing::Listing;
+pub use map::Cell;
+pub use names::{Kind, ProblemKind, Refusal, Verdict};
+pub use report::{Log, Lost, Overlap, Problem, Report};
 
 /// An answer is so many numbers.
 pub const FIGURES: usize = 79;
 
-/// How many kinds of claimants there are.
-pub const KINDS: usize = 9;
-
-/// How many problems and overlaps a report names.
+/// So many problems, and so many overlaps, are named in a report.
 pub const LOGGED: usize = 10;
 
-// Where the parts of an answer begin.
-const REFUSAL: usize = 0;
-const XID: usize = 1;
-const PROBLEM: usize = 5;
-const FREE: usize = 25;
-const OVERLAP: usize = 29;
-const LOST: usize = 59;
-const FIRST_LOST: usize = 68;
-const LEAKED: usize = 77;
-const VERDICT: usize = 78;
+// Where block 0 states the block size, in 4 bytes, and the block count, in 8.
+const BLOCK_SIZE: usize = 36;
+const BLOCK_COUNT: usize = 40;
+
+/// No container has smaller blocks.
+const LEAST_BLOCK: usize = 4096;
 
 extern "C" {
     fn space_check(
@@ -31,96 +53,42 @@ extern "C" {
     );
 }
 
-/// The refusal's number, 1 to 22.
-#[derive(Clone, Copy, Debug, PartialEq, Eq)]
-pub struct Refusal(pub u64);
-
-#[derive(Clone, Copy, Debug, PartialEq, Eq)]
-pub struct Problem {
-    pub kind: u64,
-    pub block: u64,
+/// The block size that block 0 states, or 0 where it has none: where there is a report, a power of two from 4,096 to
+/// 65,536.
+pub fn block_size(image: &[u8]) -> u32 {
+    let stated = image.get(BLOCK_SIZE..BLOCK_SIZE + 4);
+    stated.map_or(0, |bytes| u32::from_le_bytes(bytes.try_into().expect("4 bytes")))
 }
 
-#[derive(Clone, Copy, Debug, PartialEq, Eq)]
-pub struct Overlap {
-    pub block: u64,
-    pub owner: u64,
-    pub claimant: u64,
+/// How long a block map the check of this image needs: one as long never gives [`Refusal::ShortMap`].
+///
+/// That is the block count as far as the image can have so many blocks; one that can't is refused before the map is
+/// looked at ([`Refusal::MissingBlocks`]), so that a damaged count asks for no memory.
+pub fn blocks(image: &[u8]) -> usize {
+    let stated = image.get(BLOCK_COUNT..BLOCK_COUNT + 8);
+    let count = stated.map_or(0, |bytes| u64::from_le_bytes(bytes.try_into().expect("8 bytes")));
+    usize::try_from(count).unwrap_or(usize::MAX).min(image.len() / LEAST_BLOCK)
 }
 
-/// Blocks of a kind that no bitmap marks.
-#[derive(Clone, Copy, Debug, PartialEq, Eq)]
-pub struct Lost {
-    pub count: u64,
-    pub first: u64,
+/// The report on an image, and the block map left in `map`: a [`Cell`] for each block.
+///
+/// After refusals 1 to 11 the map is as it was, after 12 to 22 it is 0 for each block. Bytes past the block count are
+/// never changed.
+///
+/// ```
+/// use space_check::{check, Refusal};
+/// assert_eq!(check(&[], &mut []), Err(Refusal::ShortImage));
+/// ```
+pub fn check(image: &[u8], map: &mut [u8]) -> Result<Report, Refusal> {
+    report::answer(&figures(image, map))
 }
 
-/// Unfilled places are 0.
-#[derive(Clone, Debug, PartialEq, Eq)]
-pub struct Report {
-    pub xid: u64,
-    pub pool_used: u64,
-    pub pool_unused: u64,
-    pub problems: u64,
-    pub first_problems: [Problem; LOGGED],
-    pub free: u64,
-    pub wrong_chunks: u64,
-    pub device_free: u64,
-    pub overlaps: u64,
-    pub first_overlaps: [Overlap; LOGGED],
-    /// Kind 1 first.
-    pub lost: [Lost; KINDS],
-    pub leaked: u64,
-    /// 1 consistent, 2 inconsistent.
-    pub verdict: u64,
-}
-
-/// The answer's numbers, and the block map left in `map`.
+/// The answer's numbers, at the places that `interface/space_check.h` names, and the block map left in `map`.
 pub fn figures(image: &[u8], map: &mut [u8]) -> [u64; FIGURES] {
     let mut figures = [0; FIGURES];
     // SAFETY: each buffer is lent whole for the call, and the borrows keep the three apart.
     unsafe {
-        space_check(
-            image.as_ptr(),
-            image.len(),
-            map.as_mut_ptr(),
-            map.len(),
-            figures.as_mut_ptr(),
-            FIGURES,
-        )
-    };
-    figures
-}
-
-/// The report on an image, and the block map left in `map`.
-pub fn check(image: &[u8], map: &mut [u8]) -> Result<Report, Refusal> {
-    let n = figures(image, map);
-    if n[REFUSAL] != 0 {
-        return Err(Refusal(n[REFUSAL]));
+        space_check(image.as_ptr(), image.len(), map.as_mut_ptr(), map.len(), figures.as_mut_ptr(), FIGURES);
     }
-    Ok(Report {
-        xid: n[XID],
-        pool_used: n[XID + 1],
-        pool_unused: n[XID + 2],
-        problems: n[XID + 3],
-        first_problems: std::array::from_fn(|i| Problem {
-            kind: n[PROBLEM + 2 * i],
-            block: n[PROBLEM + 2 * i + 1],
-        }),
-        free: n[FREE],
-        wrong_chunks: n[FREE + 1],
-        device_free: n[FREE + 2],
-        overlaps: n[FREE + 3],
-        first_overlaps: std::array::from_fn(|i| Overlap {
-            block: n[OVERLAP + 3 * i],
-            owner: n[OVERLAP + 3 * i + 1],
-            claimant: n[OVERLAP + 3 * i + 2],
-        }),
-        lost: std::array::from_fn(|i| Lost {
-            count: n[LOST + i],
-            first: n[FIRST_LOST + i],
-        }),
-        leaked: n[LEAKED],
-        verdict: n[VERDICT],
-    })
+    figures
 }

@@ -1,0 +1,135 @@
+//! What answers name by number: claimants, problems, refusals, verdicts.
+
+use std::fmt;
+
+/// An enum whose cases have the numbers of the report, and a name each.
+macro_rules! numbered {
+    ($(#[$about:meta])* $name:ident { $($case:ident = $number:literal, $text:literal;)+ }) => {
+        $(#[$about])*
+        #[derive(Clone, Copy, Debug, PartialEq, Eq, PartialOrd, Ord, Hash)]
+        #[non_exhaustive]
+        pub enum $name {
+            $(#[doc = $text] $case = $number,)+
+        }
+
+        impl $name {
+            /// All cases, by their numbers.
+            pub const ALL: &'static [$name] = &[$($name::$case,)+];
+
+            pub fn number(self) -> u64 {
+                self as u64
+            }
+
+            pub fn from_number(number: u64) -> Option<$name> {
+                $name::ALL.iter().copied().find(|case| case.number() == number)
+            }
+
+            pub fn name(self) -> &'static str {
+                match self {
+                    $($name::$case => $text,)+
+                }
+            }
+        }
+
+        impl fmt::Display for $name {
+            fn fmt(&self, f: &mut fmt::Formatter<'_>) -> fmt::Result {
+                f.pad(self.name())
+            }
+        }
+    };
+}
+
+numbered! {
+    /// What a block is claimed for, in the order of the claims.
+    Kind {
+        ContainerSuperblock = 1, "container superblock";
+        DescriptorArea = 2, "checkpoint descriptor area";
+        DataArea = 3, "checkpoint data area";
+        InternalPool = 4, "internal pool";
+        PoolBitmapRing = 5, "internal-pool bitmap ring";
+        ObjectMap = 6, "object map";
+        ObjectMapNode = 7, "object map node";
+        VolumeSuperblock = 8, "volume superblock";
+        FreeQueue = 9, "free queue (pending release)";
+    }
+}
+
+numbered! {
+    /// What is wrong with a block of the internal pool.
+    ProblemKind {
+        InfoUnmarked = 1, "chunk-info block unmarked";
+        BitmapUnmarked = 2, "chunk bitmap unmarked";
+        BitmapUsed = 3, "chunk bitmap already used";
+        QueuedUnmarked = 4, "queued block unmarked";
+        QueuedUsed = 5, "queued block already used";
+    }
+}
+
+numbered! {
+    /// Inconsistent means a lost block, an overlap or a problem.
+    Verdict {
+        Consistent = 1, "consistent";
+        Inconsistent = 2, "inconsistent";
+    }
+}
+
+numbered! {
+    /// Why there is no report, in checking order.
+    Refusal {
+        ShortImage = 1, "the image is shorter than 4,096 bytes";
+        NoMagic = 2, "the image does not begin with a container superblock";
+        BlockSize = 3, "the container states a block size that is not a power of two from 4,096 to 65,536";
+        BlockCount = 4, "the container states no blocks at all, or more than 4,294,967,295";
+        MissingBlocks = 5, "the image is shorter than the container in it";
+        ShortMap = 6, "the block map lent to the check is shorter than the block count";
+        DescriptorLength = 7, "the checkpoint descriptor area is not one run of blocks";
+        DescriptorArea = 8, "the checkpoint descriptor area reaches past the end of the container";
+        NoCheckpoint = 9, "no checkpoint can be read: no sound superblock has a map that loads";
+        Incompatible = 10, "the container is of a pre-release format or spans a Fusion Drive";
+        CountDiffers = 11, "the superblock in use and block 0 state different block counts";
+        PastContainer = 12, "an address lies past the end of the container, or is 0 where a block must stand";
+        BadChecksum = 13, "the checksum of a block or of the space manager is wrong";
+        WrongKind = 14, "an object is of another kind than its place asks for";
+        BadNode = 15, "a tree node or the object map's tree is laid out in an impossible way";
+        Unmapped = 16, "an object that the check needs is not in the checkpoint's map";
+        OutsideBytes = 17, "a field, an entry or a child pointer is missing or lies outside its bytes";
+        WrongLevel = 18, "a tree node stands on the wrong level";
+        AddressBlocks = 19, "the space manager is so large that it has address blocks, which this check does not follow";
+        BadBitmap = 20, "a bitmap is too small for what it describes, or marks a block past the end of the container";
+        Overflow = 21, "a sum is too large, the space manager lies before its area, or queued blocks lie past the end";
+        TooManyNodes = 22, "the object map's tree is too deep, or has more nodes than the container has blocks";
+    }
+}
+
+impl Refusal {
+    /// Whether the block map is as it was handed in; after the other refusals it is 0 for each block.
+    pub fn keeps_map(self) -> bool {
+        self <= Refusal::CountDiffers
+    }
+}
+
+impl std::error::Error for Refusal {}
+
+#[cfg(test)]
+mod tests {
+    use super::*;
+
+    #[test]
+    fn numbers_count_from_1() {
+        let numbers = [
+            Kind::ALL.iter().map(|k| k.number()).collect::<Vec<_>>(),
+            ProblemKind::ALL.iter().map(|k| k.number()).collect(),
+            Verdict::ALL.iter().map(|k| k.number()).collect(),
+            Refusal::ALL.iter().map(|k| k.number()).collect(),
+        ];
+        for (numbers, last) in numbers.iter().zip([9, 5, 2, 22]) {
+            assert_eq!(numbers, &(1..=last).collect::<Vec<u64>>());
+        }
+    }
+
+    #[test]
+    fn a_number_without_a_name() {
+        assert_eq!((Kind::from_number(0), Refusal::from_number(23)), (None, None));
+        assert_eq!(Refusal::from_number(22), Some(Refusal::TooManyNodes));
+    }
+}

@@ -1,0 +1,58 @@
+// The 16-block container of document 01's listing, which is also the listing program's input.
+use space_check::{block_size, blocks, check, Cell, Kind, Lost, Refusal, Verdict};
+
+const CONTAINER: &[u8] = include_bytes!("../../../crates/listing/stdin");
+const BLOCKS: usize = 16;
+
+/// Where its chunk bitmap begins: block 7, of which bits 0 to 9 are set.
+const CHUNK_BITMAP: usize = 7 * 4096;
+
+#[test]
+fn a_consistent_container() {
+    let mut map = vec![0xff; BLOCKS + 1];
+    let report = check(CONTAINER, &mut map).unwrap();
+    let expected = include_str!("../../../crates/listing/stdout");
+    assert_eq!(report.listing("stdin").to_string(), expected);
+    assert_eq!(report.verdict, Verdict::Consistent);
+    assert_eq!(map[BLOCKS], 0xff, "a byte past the block count");
+    assert_eq!(Cell(map[9]).owner(), Some(Kind::ObjectMapNode));
+    assert!(Cell(map[6]).is_pool_used() && Cell(map[6]).is_marked());
+    assert_eq!(Cell(map[10]), Cell(0));
+}
+
+#[test]
+fn a_lost_and_a_leaked_block() {
+    let mut image = CONTAINER.to_vec();
+    // the object map's root, 9, is free by the bitmap, and 10 is not
+    image[CHUNK_BITMAP + 1] = 0x05;
+    let mut map = vec![0; blocks(&image)];
+    let report = check(&image, &mut map).unwrap();
+    assert_eq!((report.verdict, report.leaked, report.lost_blocks()), (Verdict::Inconsistent, 1, 1));
+    assert_eq!(report.lost[6], Lost { kind: Kind::ObjectMapNode, count: 1, first: Some(9) });
+    assert!(Cell(map[9]).is_lost() && Cell(map[10]).is_leaked());
+    let listing = report.listing("disk").to_string();
+    assert!(listing.contains("in use but marked free: 1 blocks\n  object map node: 1 (first at 0x9)\n"), "{listing}");
+    assert!(listing.ends_with("result     inconsistent\n"), "{listing}");
+}
+
+#[test]
+fn a_short_map() {
+    let mut map = [0xff; BLOCKS - 1];
+    assert_eq!(check(CONTAINER, &mut map), Err(Refusal::ShortMap));
+    assert_eq!(map, [0xff; BLOCKS - 1]);
+}
+
+#[test]
+fn how_long_a_map() {
+    assert_eq!((blocks(CONTAINER), block_size(CONTAINER)), (BLOCKS, 4096));
+    assert_eq!((blocks(&[]), block_size(&[])), (0, 0));
+    // an image cut short asks for no more than it could hold, and is refused for what is missing
+    let cut = &CONTAINER[..5 * 4096 - 1];
+    assert_eq!(blocks(cut), 4);
+    assert_eq!(check(cut, &mut [0; 4]), Err(Refusal::MissingBlocks));
+}
+
+#[test]
+fn nothing() {
+    assert_eq!(check(&[], &mut []), Err(Refusal::ShortImage));
+}
