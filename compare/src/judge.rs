@@ -118,7 +118,7 @@ fn original_parts(pass: &Pass, left: &[u8], original: Option<&Reply>) -> Option<
     }
     match (original?, &pass.answer) {
         (Reply::Unreadable(line), _) => Some(Disagreement::Unreadable(Party::Original, line.clone())),
-        (Reply::Answer(numbers, map), Answer::Reported(_)) => answers_part(
+        (Reply::Answer(numbers, map, _), Answer::Reported(_)) => answers_part(
             [Party::Original, Party::Model],
             (numbers, map),
             (&pass.answer.numbers(), &left[..pass.notes.count as usize]),
@@ -149,7 +149,7 @@ fn library_parts(
 ) -> io::Result<Option<Disagreement>> {
     for fill in FILLS {
         let (numbers, map) = match worker.ask(Who::Library(fill), image, left.len())? {
-            Reply::Answer(numbers, map) => (numbers, map),
+            Reply::Answer(numbers, map, _) => (numbers, map),
             Reply::Breach(what) => return Ok(Some(Disagreement::Breach(what))),
             other => return Ok(Some(Disagreement::NoAnswer(Party::Library, format!("{other:?}")))),
         };
@@ -157,7 +157,7 @@ fn library_parts(
         let beside_model =
             answers_part([Party::Library, Party::Model], (&numbers, &map), (&pass.answer.numbers(), &expected));
         let beside_original = || match original {
-            Some(Reply::Answer(theirs, their_map)) if is_due(pass) => {
+            Some(Reply::Answer(theirs, their_map, _)) if is_due(pass) => {
                 let ours = &map[..their_map.len().min(map.len())];
                 answers_part([Party::Library, Party::Original], (&numbers, ours), (theirs, their_map))
             }

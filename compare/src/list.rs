@@ -6,6 +6,7 @@
 //! `rust` how the original ended, `answer` the 79 numbers, `left HEX` the map afterwards.
 
 use std::collections::HashMap;
+use std::{fs, io};
 
 use crate::answer::{Answer, NUMBERS};
 use crate::judge::{is_due, Judgement};
@@ -86,6 +87,13 @@ pub fn write_item(out: &mut String, item: &Item, base: &[u8]) {
 /// A line's number, its first word and the rest.
 type Line<'a> = (usize, &'a str, &'a str);
 type Bases = HashMap<String, Vec<u8>>;
+
+/// The items of a file, at least one.
+pub fn read(path: &str) -> io::Result<Vec<Item>> {
+    let at = |error: String| io::Error::other(format!("{path}: {error}"));
+    let text = fs::read_to_string(path).map_err(|e| at(e.to_string()))?;
+    parse(&text).map_err(at)
+}
 
 /// Reads items, at least one; a file without an `image` line holds one image.
 pub fn parse(text: &str) -> Result<Vec<Item>, String> {

@@ -14,6 +14,7 @@ mod image;
 mod judge;
 mod library;
 mod list;
+mod listing;
 mod messages;
 mod model;
 mod nodes;
@@ -47,6 +48,8 @@ usage: compare run --seeds A..B      images of seeds A to B - 1, the table of co
        compare answers               the fixed list, on standard output
        compare answers IMAGE...      the original's answer for each image file
        compare verify [FILE...]      replays the fixed list, or other files of its form
+       compare listing COMMAND [FILE...]
+                                     what COMMAND prints about the same images, against the original's lines
 exit status: 0 all agree, 1 a disagreement or a row of the table not reached by 20,000 seeds or more, 2 anything else";
 
 /// Damaged images of each large container.
@@ -81,6 +84,8 @@ fn command(words: &[&str]) -> io::Result<bool> {
         ["answers", images @ ..] => originals(images),
         ["verify"] => verify::verify(&[LIST]),
         ["verify", files @ ..] => verify::verify(files),
+        ["listing", program] => listing::listing(program, &[LIST]),
+        ["listing", program, files @ ..] => listing::listing(program, files),
         ["worker"] => worker::serve().map(|()| true),
         _ => Err(io::Error::other(USAGE)),
     }
@@ -118,7 +123,7 @@ fn originals(images: &[&str]) -> io::Result<bool> {
         let image = fs::read(path).map_err(|e| io::Error::other(format!("{path}: {e}")))?;
         let reply = worker.ask(Who::Original, &image, 0)?;
         match reply {
-            Reply::Answer(numbers, map) => {
+            Reply::Answer(numbers, map, _) => {
                 println!("{path}\nanswer {}\nleft {}", text::to_row(&numbers), text::to_hex(&map))
             }
             other => println!("{path}\n{other:?}"),

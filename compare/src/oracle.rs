@@ -12,14 +12,17 @@ use crate::answer::{Lost, Overlap, Problem, Report, CONSISTENT, INCONSISTENT, KI
 /// How a run of the original ended.
 #[derive(Debug, PartialEq, Eq)]
 pub enum Ended {
-    /// With a report, and the block map.
-    Report(Box<Report>, Vec<u8>),
+    /// With a report, the block map, and the lines that it was read from.
+    Report(Box<Report>, Vec<u8>, Vec<String>),
     /// With an error other than its inconsistent verdict.
     Error(String),
     Panic(String),
     /// Its lines could not be read back: a fault of this harness.
     Unreadable(String),
 }
+
+/// Where the container is, as the original is told and prints it.
+pub const LOCATION: &str = "image";
 
 /// The error that stands for the verdict "inconsistent".
 const INCONSISTENT_ERROR: &str = "the space map is inconsistent";
@@ -34,7 +37,7 @@ pub fn run(image: Vec<u8>) -> Ended {
     take_caught();
     let pass = || -> Result<(), String> {
         let container = Container::open(Box::new(image)).map_err(|e| e.to_string())?;
-        space_check_container(&container, "image").map_err(|e| e.msg)
+        space_check_container(&container, LOCATION).map_err(|e| e.msg)
     };
     let verdict = match catch_unwind(AssertUnwindSafe(pass)) {
         Ok(Ok(())) => CONSISTENT,
@@ -46,7 +49,7 @@ pub fn run(image: Vec<u8>) -> Ended {
     let report = Lines::new(&lines).report(verdict);
     let map = cells.ok_or("no block map was handed out".into()).and_then(|cells| block_map(&cells));
     match (report, map) {
-        (Ok(report), Ok(map)) => Ended::Report(Box::new(report), map),
+        (Ok(report), Ok(map)) => Ended::Report(Box::new(report), map, lines),
         (Err(what), _) | (_, Err(what)) => Ended::Unreadable(what),
     }
 }
@@ -99,7 +102,7 @@ impl<'a> Lines<'a> {
     }
 
     fn report(mut self, verdict: u64) -> Read<Report> {
-        let [xid] = self.numbers("space check  image  xid {}")?;
+        let [xid] = self.numbers(&format!("space check  {LOCATION}  xid {{}}"))?;
         let [pool_used, pool_unused, problems] =
             self.numbers("internal pool  {} blocks in use, {} marked but unused, {} problems")?;
         let mut report = Report { xid, pool_used, pool_unused, problems, verdict, ..Report::default() };

@@ -1,10 +1,10 @@
 //! `compare verify`: images with kept answers, replayed against original, model and library.
 
-use std::{fs, io};
+use std::io;
 
 use crate::disagreement::Disagreement;
 use crate::judge::{judge, kept_parts, Ask};
-use crate::list::{ending, parse, Item};
+use crate::list::{ending, read, Item};
 use crate::worker::{Worker, SMALL};
 
 /// Whether every image of the files agrees with what is kept for it.
@@ -12,9 +12,7 @@ pub fn verify(files: &[&str]) -> io::Result<bool> {
     let mut worker = Worker::new(SMALL);
     let (mut images, mut faults) = (0, 0);
     for path in files {
-        let at = |error: String| io::Error::other(format!("{path}: {error}"));
-        let text = fs::read_to_string(path).map_err(|e| at(e.to_string()))?;
-        for item in parse(&text).map_err(at)? {
+        for item in read(path)? {
             images += 1;
             for fault in replay(&mut worker, &item)? {
                 faults += 1;

@@ -19,8 +19,8 @@ use crate::text::{from_hex, from_row, to_hex, to_row};
 /// What was asked about an image came to this.
 #[derive(Clone, Debug, PartialEq, Eq)]
 pub enum Reply {
-    /// An answer's numbers and the block map.
-    Answer(Vec<u64>, Vec<u8>),
+    /// An answer's numbers, the block map, and the lines that the original printed; the library prints none.
+    Answer(Vec<u64>, Vec<u8>, Vec<String>),
     Error(String),
     Panic(String),
     /// The worker ran out of memory or time.
@@ -153,7 +153,7 @@ fn parse(line: &str) -> Reply {
     let (word, rest, map) = (parts.next().unwrap_or(""), parts.next().unwrap_or(""), parts.next().unwrap_or(""));
     match word {
         "answer" => match (from_row(rest), from_hex(map)) {
-            (Some(numbers), Some(map)) => Reply::Answer(numbers, map),
+            (Some(numbers), Some(map)) => Reply::Answer(numbers, map, parts.map(String::from).collect()),
             _ => Reply::Unreadable(format!("a worker's line: {line}")),
         },
         "error" => Reply::Error(rest.into()),
@@ -201,8 +201,9 @@ fn answer_to(word: &str, image: Vec<u8>, map_length: usize) -> String {
 
 fn ask_original(image: Vec<u8>) -> String {
     match oracle::run(image) {
-        Ended::Report(report, map) => {
-            format!("answer\t{}\t{}", to_row(&Answer::Reported(report).numbers()), to_hex(&map))
+        Ended::Report(report, map, lines) => {
+            let numbers = Answer::Reported(report).numbers();
+            format!("answer\t{}\t{}\t{}", to_row(&numbers), to_hex(&map), lines.join("\t"))
         }
         Ended::Error(message) => format!("error\t{message}"),
         Ended::Panic(message) => format!("panic\t{message}"),
@@ -215,5 +216,18 @@ fn ask_library(image: &[u8], map_length: usize, fill: Fill) -> String {
     match library::check(image, map_length, fill) {
         Ok((numbers, map)) => format!("answer\t{}\t{}", to_row(&numbers), to_hex(&map)),
         Err(what) => format!("breach\t{what}"),
+    }
+}
+
+#[cfg(test)]
+mod tests {
+    use super::*;
+    use crate::seeds::Base;
+
+    #[test]
+    fn the_lines_come_with_the_answer() {
+        let image = Base::build(0).bytes;
+        let Ended::Report(_, _, printed) = oracle::run(image.clone()) else { panic!("no report") };
+        assert!(matches!(parse(&ask_original(image)), Reply::Answer(_, _, lines) if lines == printed));
     }
 }
