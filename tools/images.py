@@ -12,14 +12,15 @@ class Fault(Exception):
 def items(path):
     """The items of a file, each its lines as (word, rest); lines before the first name are an image of the file's name."""
     item, unnamed = [('image', os.path.basename(path))], True
-    for line in open(path):
-        word, _, rest = line.strip().partition(' ')
-        if word in ('define', 'image'):
-            if len(item) > 1 or not unnamed:
-                yield item
-            item, unnamed = [(word, rest)], False
-        elif word and not word.startswith('#'):
-            item.append((word, rest))
+    with open(path) as file:
+        for line in file:
+            word, _, rest = line.strip().partition(' ')
+            if word in ('define', 'image'):
+                if len(item) > 1 or not unnamed:
+                    yield item
+                item, unnamed = [(word, rest)], False
+            elif word and not word.startswith('#'):
+                item.append((word, rest))
     if len(item) > 1 or not unnamed:
         yield item
 

@@ -1,0 +1,95 @@
+//! An answer as a line of JSON. Every line has the same keys; what isn't there is null.
+
+use serde_json::{json, Value};
+use space_check::{Kind, Lost, Overlap, Problem, Refusal, Report};
+
+use crate::explain;
+use crate::one::Checked;
+use crate::status;
+
+const REFUSED: &str = "refused";
+const UNREADABLE: &str = "unreadable";
+
+pub fn checked(checked: &Checked) -> String {
+    let answer = match &checked.answer {
+        Ok(report) => report.verdict.name(),
+        Err(_) => REFUSED,
+    };
+    let report = checked.answer.as_ref().ok();
+    line(json!({
+        "image": checked.name,
+        "partition": checked.container.partition,
+        "offset": checked.container.offset,
+        "length": checked.container.bytes.len(),
+        "answer": answer,
+        "exit_status": status::of(&checked.answer),
+        "block_size": report.map(|_| space_check::block_size(checked.container.bytes)),
+        "block_count": report.map(|_| checked.map.len()),
+        "report": report.map(of_report),
+        "refusal": checked.answer.as_ref().err().map(|&refusal| of_refusal(refusal)),
+        "error": null,
+    }))
+}
+
+pub fn unreadable(name: &str, reason: &str) -> String {
+    line(json!({
+        "image": name,
+        "partition": null,
+        "offset": null,
+        "length": null,
+        "answer": UNREADABLE,
+        "exit_status": status::UNREADABLE,
+        "block_size": null,
+        "block_count": null,
+        "report": null,
+        "refusal": null,
+        "error": reason,
+    }))
+}
+
+fn line(value: Value) -> String {
+    format!("{value}\n")
+}
+
+fn of_report(report: &Report) -> Value {
+    json!({
+        "xid": report.xid,
+        "pool_used": report.pool_used,
+        "pool_unused": report.pool_unused,
+        "problems": log(report.problems.total, report.problems.first.iter().map(of_problem)),
+        "free": report.free,
+        "wrong_chunks": report.wrong_chunks,
+        "device_free": report.device_free,
+        "overlaps": log(report.overlaps.total, report.overlaps.first.iter().map(of_overlap)),
+        "lost": json!({
+            "total": report.lost_blocks(),
+            "kinds": report.lost.iter().map(of_lost).collect::<Vec<_>>(),
+        }),
+        "leaked": report.leaked,
+        "verdict": { "number": report.verdict.number(), "name": report.verdict.name() },
+    })
+}
+
+fn log(total: u64, first: impl Iterator<Item = Value>) -> Value {
+    json!({ "total": total, "first": first.collect::<Vec<_>>() })
+}
+
+fn of_problem(problem: &Problem) -> Value {
+    json!({ "number": problem.kind.number(), "name": problem.kind.name(), "block": problem.block })
+}
+
+fn of_overlap(overlap: &Overlap) -> Value {
+    json!({ "block": overlap.block, "owner": of_kind(overlap.owner), "claimant": of_kind(overlap.claimant) })
+}
+
+fn of_kind(kind: Kind) -> Value {
+    json!({ "number": kind.number(), "name": kind.name() })
+}
+
+fn of_lost(lost: &Lost) -> Value {
+    json!({ "number": lost.kind.number(), "name": lost.kind.name(), "count": lost.count, "first": lost.first })
+}
+
+fn of_refusal(refusal: Refusal) -> Value {
+    json!({ "number": refusal.number(), "name": refusal.name(), "next": explain::advice(refusal) })
+}

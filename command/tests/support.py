@@ -1,0 +1,83 @@
+"""What the tests of apfs-space-check share: the command, the images with known answers, scratch files."""
+import json
+import os
+import subprocess
+import sys
+import tempfile
+import unittest
+
+sys.dont_write_bytecode = True
+ROOT = os.path.dirname(os.path.dirname(os.path.dirname(os.path.abspath(__file__))))
+sys.path.insert(0, os.path.join(ROOT, 'tools'))
+import images  # noqa: E402  (beside the other tools)
+
+COMMAND = os.path.join(ROOT, 'command', 'target', 'release', 'apfs-space-check')
+SAMPLE = os.path.join(ROOT, 'crates', 'listing', 'stdin')
+CONSISTENT, INCONSISTENT, REFUSED, UNREADABLE = range(4)
+
+BLOCK = 4096
+# where the sample's chunk bitmap stands, of which bits 0 to 9 are set
+BITMAP = 7 * BLOCK
+
+
+def sample():
+    with open(SAMPLE, 'rb') as file:
+        return bytearray(file.read())
+
+
+def lost_and_leaked():
+    """The sample with block 9, the object map's root, marked free, and block 10 marked as in use."""
+    image = sample()
+    image[BITMAP + 1] = 0b101
+    return image
+
+
+def known(path=os.path.join(ROOT, 'compare', 'answers', 'list.txt')):
+    """The images of the fixed list with the answers that the command must give: it never lends a short map (6)."""
+    return [v for v in images.read(path) if v['answer'][0] != 6]
+
+
+class CommandTest(unittest.TestCase):
+    """Each test has a folder of its own, in which the command is run."""
+
+    def setUp(self):
+        scratch = tempfile.TemporaryDirectory()
+        self.addCleanup(scratch.cleanup)
+        self.folder = scratch.name
+
+    def path(self, name):
+        return os.path.join(self.folder, name)
+
+    def write(self, name, content):
+        with open(self.path(name), 'wb') as file:
+            file.write(content)
+        return name
+
+    def read(self, name):
+        with open(self.path(name), 'rb') as file:
+            return file.read()
+
+    def sparse(self, name, length):
+        with open(self.path(name), 'wb') as file:
+            file.truncate(length)
+        return name
+
+    def must(self, *command, **options):
+        """Runs another program, which must succeed."""
+        done = subprocess.run(command, cwd=self.folder, capture_output=True, check=False, **options)
+        self.assertEqual(done.returncode, 0, done)
+        return done.stdout
+
+    def run_command(self, *arguments):
+        done = subprocess.run([COMMAND, *arguments], cwd=self.folder, stdin=subprocess.DEVNULL, capture_output=True,
+                              check=False, timeout=120)
+        self.assertNotIn(b'panicked', done.stderr)
+        return done.returncode, done.stdout.decode(), done.stderr.decode()
+
+    def json_of(self, *arguments):
+        """The line of JSON for one image; its status is the command's."""
+        status, out, _ = self.run_command('--json', *arguments)
+        self.assertEqual(out.count('\n'), 1, out)
+        answer = json.loads(out)
+        self.assertEqual(answer['exit_status'], status)
+        return answer
