@@ -95,7 +95,11 @@ fn print(arguments: &Arguments, checked: &Checked) -> u8 {
 fn write_files(arguments: &Arguments, checked: &Checked) -> u8 {
     let report = match &checked.answer {
         Ok(report) => report,
-        Err(_) => return status::CONSISTENT,
+        Err(_) => {
+            let unwritten = arguments.outputs().filter(|_| !arguments.quiet);
+            unwritten.for_each(|path| output::note(&format!("{}: not written: no report", output::shown(path))));
+            return status::CONSISTENT;
+        }
     };
     let map = arguments.map.iter().map(|path| (path, fs::write(path, checked.map)));
     let picture = arguments.picture.iter().map(|path| (path, Picture::of(checked, report).write(path)));
