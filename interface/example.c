@@ -1,4 +1,4 @@
-/* example IMAGE: prints the verdict on a container's image, or the refusal's number.
+/* example IMAGE: prints the verdict on a container in a file or block device, or the refusal's number.
  *
  *     rt staticlib interface
  *     cc -o target/example interface/example.c target/staticlib/libinterface.a
@@ -9,7 +9,6 @@
 #include <stdio.h>
 #include <stdlib.h>
 #include <sys/mman.h>
-#include <sys/stat.h>
 #include <unistd.h>
 
 #include "space_check.h"
@@ -39,8 +38,8 @@ int main(int argc, char **argv)
     static uint8_t none;
     uint64_t figures[SPACE_CHECK_FIGURES] = {0};
     uint8_t *image = &none, *map;
-    struct stat file;
     size_t length, blocks;
+    off_t end;
     int fd;
 
     if (argc != 2) {
@@ -48,11 +47,12 @@ int main(int argc, char **argv)
         return UNREADABLE;
     }
     fd = open(argv[1], O_RDONLY);
-    if (fd < 0 || fstat(fd, &file) < 0) {
+    end = fd < 0 ? -1 : lseek(fd, 0, SEEK_END); /* a block device's length, too */
+    if (end < 0) {
         perror(argv[1]);
         return UNREADABLE;
     }
-    length = file.st_size;
+    length = end;
     if (length > 0)
         image = mmap(NULL, length, PROT_READ, MAP_PRIVATE, fd, 0);
     if (image == MAP_FAILED) {

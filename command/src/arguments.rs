@@ -1,14 +1,14 @@
 //! The command line.
 
 use std::path::PathBuf;
-use std::process::ExitCode;
 
 use clap::error::ErrorKind;
-use clap::{value_parser, CommandFactory, Parser};
+use clap::{value_parser, Arg, CommandFactory, FromArgMatches, Parser};
 use clap_complete::{generate, Shell};
 use space_check::Refusal;
 
-use crate::{output, status};
+use crate::output;
+use crate::status::Status;
 
 const AFTER: &str = "\
 Exit status, the worst of several images:
@@ -16,6 +16,9 @@ Exit status, the worst of several images:
   1  inconsistent
   2  refused
   3  no answer: an image could not be read, a file not be written, or the command line makes no sense";
+
+/// The option by which a child is told its image: for the command's own use, and in no help.
+pub const ONLY_IMAGE: &str = "only-image";
 
 /// Checks the space of APFS containers: counts the bitmaps, rebuilds who owns each block, and gives a verdict.
 #[derive(Parser)]
@@ -50,12 +53,16 @@ pub struct Arguments {
     pub quiet: bool,
 
     /// Tell what refusal N, from 1 to 22, means and what to do next
-    #[arg(long, value_name = "N", value_parser = value_parser!(u8).range(1..=22), exclusive = true)]
-    explain: Option<u8>,
+    #[arg(long, value_name = "N", value_parser = refusal, exclusive = true)]
+    explain: Option<Refusal>,
 
     /// Print the completions for a shell
     #[arg(long, value_name = "SHELL", exclusive = true)]
     completions: Option<Shell>,
+
+    /// In a child of this command, the place of the image that it checks.
+    #[arg(skip)]
+    pub only_image: Option<usize>,
 }
 
 /// What a command line asks for.
@@ -67,9 +74,11 @@ pub enum Task<'a> {
 
 impl Arguments {
     pub fn read() -> Result<Arguments, clap::Error> {
-        let arguments = Arguments::try_parse()?;
-        let written = arguments.map.is_some() || arguments.picture.is_some();
-        if written && arguments.images.len() > 1 {
+        let own = Arg::new(ONLY_IMAGE).long(ONLY_IMAGE).hide(true).value_parser(value_parser!(usize));
+        let mut matches = Arguments::command().arg(own).try_get_matches()?;
+        let only_image = matches.remove_one(ONLY_IMAGE);
+        let arguments = Arguments { only_image, ..Arguments::from_arg_matches(&matches)? };
+        if arguments.images.len() > 1 && arguments.outputs().next().is_some() {
             let message = "--map and --picture are for one image";
             return Err(Arguments::command().error(ErrorKind::ArgumentConflict, message));
         }
@@ -77,10 +86,10 @@ impl Arguments {
     }
 
     pub fn task(&self) -> Task<'_> {
-        match (self.explain.and_then(|n| Refusal::from_number(n.into())), self.completions) {
+        match (self.explain, self.completions) {
             (Some(refusal), _) => Task::Explain(refusal),
-            (_, Some(shell)) => Task::Complete(shell),
-            _ => Task::Check(&self.images),
+            (None, Some(shell)) => Task::Complete(shell),
+            (None, None) => Task::Check(&self.images),
         }
     }
 
@@ -90,16 +99,23 @@ impl Arguments {
     }
 }
 
-/// Prints help, version or what is wrong. A wrong command line must not pass for a refused disk, as clap's own 2 would.
-pub fn told(message: &clap::Error) -> ExitCode {
-    let printed = message.print().is_ok();
-    ExitCode::from(if printed && !message.use_stderr() { status::CONSISTENT } else { status::UNREADABLE })
+fn refusal(number: &str) -> Result<Refusal, String> {
+    let refusal = number.parse().ok().and_then(Refusal::from_number);
+    refusal.ok_or_else(|| format!("refusals have numbers from 1 to {}", Refusal::ALL.len()))
 }
 
-pub fn completions(shell: Shell) -> u8 {
-    let mut text = Vec::new();
+/// Prints help, version or what is wrong. A wrong command line must not pass for a refused disk, as clap's own 2 would.
+pub fn tell(message: &clap::Error) -> Status {
+    match message.print() {
+        Ok(()) if !message.use_stderr() => Status::Consistent,
+        _ => Status::Unreadable,
+    }
+}
+
+pub fn complete(shell: Shell) -> Status {
+    let mut script = Vec::new();
     let mut command = Arguments::command();
     let name = command.get_name().to_string();
-    generate(shell, &mut command, name, &mut text);
-    output::bytes(&text)
+    generate(shell, &mut command, name, &mut script);
+    output::print(&String::from_utf8_lossy(&script), Status::Consistent)
 }

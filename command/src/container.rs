@@ -16,22 +16,22 @@ pub struct Container<'a> {
 }
 
 impl<'a> Container<'a> {
-    /// By the options; without any, the whole where a container begins there, else the only APFS partition.
+    /// By the options; without any, the only APFS partition of a disk with a GPT, and the whole of any other.
     pub fn find(disk: &'a [u8], arguments: &Arguments) -> Result<Container<'a>, String> {
         if let Some(offset) = arguments.offset {
             return Container::within(disk, offset, u64::MAX);
         }
-        if arguments.partition.is_none() && begins(disk) {
-            return Container::within(disk, 0, u64::MAX);
+        if !gpt::is_there(disk) {
+            return match arguments.partition {
+                Some(_) => Err("it has no GPT: --offset names a container's place without one".into()),
+                None => Container::within(disk, 0, u64::MAX),
+            };
         }
-        match (arguments.partition, gpt::read(disk)) {
-            (Some(number), Some(table)) => Container::numbered(disk, &table, number),
-            (Some(_), None) => {
-                Err("it has no GPT, or a damaged one: --offset names a container's place without".into())
-            }
-            (None, Some(table)) => Container::only(disk, &table),
-            // the check says that no container begins here
-            (None, None) => Container::within(disk, 0, u64::MAX),
+        let table =
+            gpt::read(disk).ok_or("its GPT is damaged at both ends: --offset names a container's place without one")?;
+        match arguments.partition {
+            Some(number) => Container::numbered(disk, &table, number),
+            None => Container::only(disk, &table),
         }
     }
 
@@ -45,6 +45,9 @@ impl<'a> Container<'a> {
     }
 
     fn partition(disk: &'a [u8], table: &Table, at: &Partition) -> Result<Container<'a>, String> {
+        if at.end <= at.start {
+            return Err(format!("partition {} ends before it begins", at.number));
+        }
         let note = table.is_backup.then_some("the GPT at the disk's start is damaged: took the one at its end");
         Ok(Container { partition: Some(at.number), note, ..Container::within(disk, at.start, at.end)? })
     }
@@ -65,7 +68,8 @@ impl<'a> Container<'a> {
     }
 }
 
-fn begins(disk: &[u8]) -> bool {
+/// Whether these bytes begin as a container does.
+pub fn begins(disk: &[u8]) -> bool {
     disk.get(MAGIC_AT..).map_or(false, |rest| rest.starts_with(MAGIC))
 }
 

@@ -91,8 +91,15 @@ mod tests {
         let disk = Disk::open(&path).unwrap();
         assert!(disk.unchanged().is_ok());
         assert_eq!(disk.bytes(), [1; 100]);
-        fs::write(&path, [2; 101]).unwrap();
-        assert!(disk.unchanged().is_err());
+        let written = |bytes: &[u8]| {
+            let disk = Disk::open(&path).unwrap();
+            // a moment that the file's time tells from the one before
+            std::thread::sleep(std::time::Duration::from_millis(20));
+            fs::write(&path, bytes).unwrap();
+            disk.unchanged().is_err()
+        };
+        assert!(written(&[2; 100]), "as long as before");
+        assert!(written(&[2; 101]));
         fs::remove_file(&path).unwrap();
     }
 }

@@ -3,10 +3,10 @@
 use space_check::Refusal;
 
 const DAMAGED: &str = "do not file the disk and do not write to it, but copy it whole and have the copy judged by \
-                       Apple's fsck_apfs";
+                       Apple's fsck_apfs, on a Mac";
 const BEYOND: &str =
     "the disk may be sound, which this check cannot tell, so set it aside and have it judged by Apple's \
-                      fsck_apfs";
+                      fsck_apfs, on a Mac";
 
 /// What to do next.
 pub fn advice(refusal: Refusal) -> &'static str {
@@ -17,8 +17,8 @@ pub fn advice(refusal: Refusal) -> &'static str {
              inside a disk"
         }
         Refusal::BlockCount => {
-            "a container of 16 TiB or more may be beyond this check; any other is damaged, so do not file the disk and \
-             do not write to it"
+            "set the disk aside, since one of 16 TiB or more may be sound and is beyond this check, and any other is \
+             damaged in its first block"
         }
         Refusal::MissingBlocks => {
             "copy the whole disk again, or make sure that --offset or --partition names the place where the container \

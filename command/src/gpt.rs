@@ -1,5 +1,11 @@
 //! Partition tables of the GPT form (UEFI specification, "GUID Partition Table Disk Layout").
 
+/// In the first sector of such a disk an MBR has a partition of this type, for programs that know MBRs alone.
+const PROTECTIVE: u8 = 0xee;
+const MBR_TYPES: [usize; 4] = [450, 466, 482, 498];
+const MBR_MAGIC_AT: usize = 510;
+const MBR_MAGIC: &[u8] = &[0x55, 0xaa];
+
 const SIGNATURE: &[u8] = b"EFI PART";
 const SECTORS: [usize; 2] = [512, 4096];
 
@@ -14,6 +20,8 @@ const ENTRIES_SUM: usize = 88;
 
 /// The least length of an entry, and where its fields stand after the partition's type.
 const ENTRY: usize = 128;
+/// All entries of a table that is read are no longer: 64 times what tools make.
+const MOST_BYTES: usize = 1 << 20;
 const FIRST: usize = 32;
 const LAST: usize = 40;
 
@@ -38,6 +46,12 @@ pub struct Table {
     pub is_backup: bool,
 }
 
+/// Whether a disk is one of a GPT. Tables that older use has left behind don't count.
+pub fn is_there(disk: &[u8]) -> bool {
+    let magic = disk.get(MBR_MAGIC_AT..).map_or(false, |rest| rest.starts_with(MBR_MAGIC));
+    magic && MBR_TYPES.iter().any(|&at| disk[at] == PROTECTIVE)
+}
+
 /// The disk's table, where it has one whose checksums are right.
 pub fn read(disk: &[u8]) -> Option<Table> {
     let found = |is_backup: bool| {
@@ -50,22 +64,23 @@ pub fn read(disk: &[u8]) -> Option<Table> {
 
 /// The partitions of the table whose header begins at a byte.
 fn table(disk: &[u8], at: usize, sector: usize) -> Option<Vec<Partition>> {
-    let header = header(disk.get(at..)?)?;
+    let header = header(disk.get(at..at.checked_add(sector)?)?)?;
     let length = usize::try_from(u32_at(header, ENTRY_LENGTH)?).ok()?;
     let count = usize::try_from(u32_at(header, ENTRY_COUNT)?).ok()?;
     let start = usize::try_from(u64_at(header, ENTRIES)?).ok()?.checked_mul(sector)?;
-    let entries = disk.get(start..start.checked_add(count.checked_mul(length)?)?)?;
-    if length < ENTRY || crc32fast::hash(entries) != u32_at(header, ENTRIES_SUM)? {
+    let bytes = count.checked_mul(length).filter(|&bytes| length >= ENTRY && bytes <= MOST_BYTES)?;
+    let entries = disk.get(start..start.checked_add(bytes)?)?;
+    if crc32fast::hash(entries) != u32_at(header, ENTRIES_SUM)? {
         return None;
     }
     let used = (1..).zip(entries.chunks(length)).filter(|(_, entry)| !entry.starts_with(&UNUSED));
     used.map(|(number, entry)| partition(number, entry, sector as u64)).collect()
 }
 
-/// A header whose checksum, taken with its own field as 0, is right.
-fn header(at: &[u8]) -> Option<&[u8]> {
-    let length = usize::try_from(u32_at(at, HEADER_LENGTH)?).ok()?;
-    let header = at.get(..length)?;
+/// A sector's header, where its checksum, taken with its own field as 0, is right.
+fn header(sector: &[u8]) -> Option<&[u8]> {
+    let length = usize::try_from(u32_at(sector, HEADER_LENGTH)?).ok()?;
+    let header = sector.get(..length)?;
     if !header.starts_with(SIGNATURE) || length < HEADER {
         return None;
     }

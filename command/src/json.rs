@@ -1,11 +1,13 @@
 //! An answer as a line of JSON. Every line has the same keys; what isn't there is null.
 
+use std::path::Path;
+
 use serde_json::{json, Value};
 use space_check::{Kind, Lost, Overlap, Problem, Refusal, Report};
 
 use crate::explain;
 use crate::one::Checked;
-use crate::status;
+use crate::status::Status;
 
 const REFUSED: &str = "refused";
 const UNREADABLE: &str = "unreadable";
@@ -17,32 +19,34 @@ pub fn checked(checked: &Checked) -> String {
     };
     let report = checked.answer.as_ref().ok();
     line(json!({
-        "image": checked.name,
+        "image": checked.image.to_string_lossy(),
         "partition": checked.container.partition,
         "offset": checked.container.offset,
         "length": checked.container.bytes.len(),
         "answer": answer,
-        "exit_status": status::of(&checked.answer),
+        "exit_status": Status::of(&checked.answer) as u8,
         "block_size": report.map(|_| space_check::block_size(checked.container.bytes)),
         "block_count": report.map(|_| checked.map.len()),
         "report": report.map(of_report),
         "refusal": checked.answer.as_ref().err().map(|&refusal| of_refusal(refusal)),
+        "note": checked.container.note,
         "error": null,
     }))
 }
 
-pub fn unreadable(name: &str, reason: &str) -> String {
+pub fn unreadable(image: &Path, reason: &str) -> String {
     line(json!({
-        "image": name,
+        "image": image.to_string_lossy(),
         "partition": null,
         "offset": null,
         "length": null,
         "answer": UNREADABLE,
-        "exit_status": status::UNREADABLE,
+        "exit_status": Status::Unreadable as u8,
         "block_size": null,
         "block_count": null,
         "report": null,
         "refusal": null,
+        "note": null,
         "error": reason,
     }))
 }
@@ -61,10 +65,10 @@ fn of_report(report: &Report) -> Value {
         "wrong_chunks": report.wrong_chunks,
         "device_free": report.device_free,
         "overlaps": log(report.overlaps.total, report.overlaps.first.iter().map(of_overlap)),
-        "lost": json!({
+        "lost": {
             "total": report.lost_blocks(),
             "kinds": report.lost.iter().map(of_lost).collect::<Vec<_>>(),
-        }),
+        },
         "leaked": report.leaked,
         "verdict": { "number": report.verdict.number(), "name": report.verdict.name() },
     })

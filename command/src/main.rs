@@ -4,6 +4,7 @@ mod arguments;
 mod container;
 mod disk;
 mod explain;
+mod files;
 mod font;
 mod gpt;
 mod json;
@@ -13,22 +14,34 @@ mod picture;
 mod status;
 mod supervise;
 
+use std::path::PathBuf;
 use std::process::ExitCode;
 
 use arguments::{Arguments, Task};
+use status::Status;
 
 fn main() -> ExitCode {
-    let arguments = match Arguments::read() {
-        Ok(arguments) => arguments,
-        Err(message) => return arguments::told(&message),
-    };
-    let status = match arguments.task() {
-        Task::Explain(refusal) => output::text(&format!("{}\n", explain::sentence(refusal))),
-        Task::Complete(shell) => arguments::completions(shell),
-        Task::Check(images) => match supervise::image_of_child() {
-            Some(at) => images.get(at).map_or(status::UNREADABLE, |image| one::check(&arguments, image)),
-            None => supervise::check_all(&arguments, images),
+    let status = match Arguments::read() {
+        Ok(arguments) => match arguments.task() {
+            Task::Explain(refusal) => output::print(&format!("{}\n", explain::sentence(refusal)), Status::Consistent),
+            Task::Complete(shell) => arguments::complete(shell),
+            Task::Check(images) => check(&arguments, images),
         },
+        Err(message) => arguments::tell(&message),
     };
-    ExitCode::from(status)
+    ExitCode::from(status as u8)
+}
+
+fn check(arguments: &Arguments, images: &[PathBuf]) -> Status {
+    if let Err(reason) = files::may_be_written(arguments, images) {
+        output::note(&reason);
+        return Status::Unreadable;
+    }
+    match arguments.only_image.and_then(|at| images.get(at)) {
+        Some(image) => {
+            supervise::end_with_parent();
+            one::check(arguments, image)
+        }
+        None => supervise::check_all(arguments, images),
+    }
 }

@@ -1,6 +1,5 @@
 //! The check of one image.
 
-use std::fs;
 use std::io;
 use std::path::Path;
 
@@ -11,11 +10,12 @@ use crate::arguments::Arguments;
 use crate::container::Container;
 use crate::disk::Disk;
 use crate::picture::Picture;
-use crate::{explain, json, output, status};
+use crate::status::Status;
+use crate::{explain, files, json, output};
 
 /// An image, and what the check answered.
 pub struct Checked<'a> {
-    pub name: &'a str,
+    pub image: &'a Path,
     pub container: Container<'a>,
     pub answer: Result<Report, Refusal>,
     /// A byte for each block, where there is a report.
@@ -25,29 +25,29 @@ pub struct Checked<'a> {
 impl Checked<'_> {
     /// What stands in the listing's first line, as the original has it.
     pub fn title(&self) -> String {
+        let name = output::shown(self.image);
         match self.container.partition {
-            Some(number) => format!("{} partition {number}", self.name),
-            None => self.name.to_string(),
+            Some(number) => format!("{name} partition {number}"),
+            None => name,
         }
     }
 }
 
-/// Checks an image, prints what was found and writes the files asked for; the exit status.
-pub fn check(arguments: &Arguments, image: &Path) -> u8 {
-    let name = output::shown(image);
-    answered(arguments, image, &name).unwrap_or_else(|reason| unreadable(arguments, &name, &reason))
+/// Checks an image, prints what was found and writes the files asked for.
+pub fn check(arguments: &Arguments, image: &Path) -> Status {
+    answered(arguments, image).unwrap_or_else(|reason| unreadable(arguments, image, &reason))
 }
 
 /// Says why an image has no answer.
-pub fn unreadable(arguments: &Arguments, name: &str, reason: &str) -> u8 {
-    output::note(&format!("{name}: {reason}"));
+pub fn unreadable(arguments: &Arguments, image: &Path, reason: &str) -> Status {
+    output::note_of(image, reason);
     if arguments.json {
-        output::text(&json::unreadable(name, reason));
+        return output::print(&json::unreadable(image, reason), Status::Unreadable);
     }
-    status::UNREADABLE
+    Status::Unreadable
 }
 
-fn answered(arguments: &Arguments, image: &Path, name: &str) -> Result<u8, String> {
+fn answered(arguments: &Arguments, image: &Path) -> Result<Status, String> {
     let disk = Disk::open(image).map_err(|reason| reason.to_string())?;
     let container = Container::find(disk.bytes(), arguments)?;
     let blocks = space_check::blocks(container.bytes);
@@ -55,10 +55,9 @@ fn answered(arguments: &Arguments, image: &Path, name: &str) -> Result<u8, Strin
     let answer = space_check::check(container.bytes, &mut map[..blocks]);
     disk.unchanged().map_err(|reason| reason.to_string())?;
 
-    let checked = Checked { name, container, answer, map: &map[..blocks] };
+    let checked = Checked { image, container, answer, map: &map[..blocks] };
     let printed = print(arguments, &checked);
-    let written = write_files(arguments, &checked);
-    Ok(status::of(&checked.answer).max(printed).max(written))
+    Ok(printed.max(write_files(arguments, &checked)))
 }
 
 /// Zeroed pages, large ones where the system has them: most are never written, and looking at many small ones takes time.
@@ -69,22 +68,21 @@ fn block_map(blocks: usize) -> io::Result<MmapMut> {
     Ok(map)
 }
 
-fn print(arguments: &Arguments, checked: &Checked) -> u8 {
-    if !arguments.quiet {
-        if let Some(note) = checked.container.note {
-            output::note(&format!("{}: {note}", checked.name));
-        }
+fn print(arguments: &Arguments, checked: &Checked) -> Status {
+    if let Some(note) = checked.container.note {
+        output::note_of(checked.image, note);
+    }
+    let status = Status::of(&checked.answer);
+    if arguments.quiet {
+        return status;
     }
     if arguments.json {
-        return output::text(&json::checked(checked));
-    }
-    if arguments.quiet {
-        return status::CONSISTENT;
+        return output::print(&json::checked(checked), status);
     }
     match &checked.answer {
-        Ok(report) => output::text(&report.listing(&checked.title()).to_string()),
+        Ok(report) => output::print(&report.listing(&checked.title()).to_string(), status),
         Err(refusal) => {
-            let printed = output::text(&format!("refused {}\n", refusal.number()));
+            let printed = output::print(&format!("refused {}\n", refusal.number()), status);
             output::note(&format!("{}: {}", checked.title(), explain::sentence(*refusal)));
             printed
         }
@@ -92,23 +90,22 @@ fn print(arguments: &Arguments, checked: &Checked) -> u8 {
 }
 
 /// A refused image has no map, and leaves the files as they are.
-fn write_files(arguments: &Arguments, checked: &Checked) -> u8 {
+fn write_files(arguments: &Arguments, checked: &Checked) -> Status {
+    let status = Status::of(&checked.answer);
     let report = match &checked.answer {
         Ok(report) => report,
         Err(_) => {
-            let unwritten = arguments.outputs().filter(|_| !arguments.quiet);
-            unwritten.for_each(|path| output::note(&format!("{}: not written: no report", output::shown(path))));
-            return status::CONSISTENT;
+            for path in arguments.outputs() {
+                output::note_of(path, "not written: there is no report");
+            }
+            return status;
         }
     };
-    let map = arguments.map.iter().map(|path| (path, fs::write(path, checked.map)));
+    let map = arguments.map.iter().map(|path| (path, files::write(path, |file| file.write_all(checked.map))));
     let picture = arguments.picture.iter().map(|path| (path, Picture::of(checked, report).write(path)));
-    let mut status = status::CONSISTENT;
-    for (path, written) in map.chain(picture) {
-        if let Err(reason) = written {
-            output::note(&format!("{}: {reason}", output::shown(path)));
-            status = status::UNREADABLE;
-        }
-    }
-    status
+    let failed = map.chain(picture).filter_map(|(path, written)| Some((path, written.err()?)));
+    failed.fold(status, |_, (path, reason)| {
+        output::note_of(path, &reason.to_string());
+        Status::Unreadable
+    })
 }

@@ -1,15 +1,16 @@
 //! The block map as a picture: a cell for one or more blocks, in rows from the first block on, and a legend.
 
-use std::fs::File;
-use std::io::{self, BufWriter};
+use std::collections::BTreeMap;
+use std::io;
 use std::path::Path;
 
-use space_check::{Cell, Kind, Report};
+use space_check::{Cell, Kind, Log, Report};
 
-use crate::font;
 use crate::one::Checked;
+use crate::{files, font};
 
-/// What a block is drawn as. Of a cell's blocks the highest number from `LEAKED` on decides, else what most owned blocks are.
+/// What a block is drawn as, a number in the palette. Of a cell's blocks the highest number from `LEAKED` on decides, else
+/// what most owned blocks are.
 type Class = u8;
 
 const FREE: Class = 0;
@@ -82,7 +83,7 @@ impl Layout {
 /// What the blocks of one cell, or of the whole map, are.
 type Counts = [u64; CLASSES];
 
-/// Each cell's class, and the whole map's counts.
+/// Each cell's class, and how many blocks are drawn as what.
 struct Cells {
     layout: Layout,
     classes: Vec<Class>,
@@ -105,27 +106,41 @@ impl Cells {
             counts.iter_mut().zip(cell).for_each(|(sum, n)| *sum += n);
         }
         let mut cells = Cells { layout, classes, counts };
-        report.problems.first.iter().for_each(|problem| cells.mark(problem.block, PROBLEM));
-        report.overlaps.first.iter().for_each(|overlap| cells.mark(overlap.block, TWICE));
+        for (block, class) in named(report) {
+            if let Some(&byte) = usize::try_from(block).ok().and_then(|block| map.get(block)) {
+                cells.mark(block, by_byte[usize::from(byte)], class);
+            }
+        }
         cells
     }
 
-    /// Draws a block that the report names; a block of the pool may lie past the container.
-    fn mark(&mut self, block: u64, class: Class) {
-        let at = usize::try_from(block / self.layout.blocks_in_cell as u64).unwrap_or(usize::MAX);
-        if let Some(cell) = self.classes.get_mut(at) {
-            *cell = class.max(*cell);
-        }
+    /// Draws a block louder than the map alone has it.
+    fn mark(&mut self, block: u64, before: Class, class: Class) {
+        self.counts[usize::from(before)] -= 1;
+        self.counts[usize::from(class.max(before))] += 1;
+        let cell = &mut self.classes[block as usize / self.layout.blocks_in_cell];
+        *cell = class.max(*cell);
     }
+}
+
+/// The blocks that the report names, each once. One of the pool may lie past the container.
+fn named(report: &Report) -> BTreeMap<u64, Class> {
+    let problems = report.problems.first.iter().map(|problem| (problem.block, PROBLEM));
+    // the louder one comes last, and stays
+    problems.chain(report.overlaps.first.iter().map(|overlap| (overlap.block, TWICE))).collect()
 }
 
 fn class_of(cell: Cell) -> Class {
     match cell.owner() {
         _ if cell.is_lost() => LOST,
         _ if cell.is_leaked() => LEAKED,
-        Some(kind) => kind.number() as Class,
+        Some(kind) => class_of_kind(kind),
         None => FREE,
     }
+}
+
+fn class_of_kind(kind: Kind) -> Class {
+    kind.number() as Class
 }
 
 fn class_of_cell(counts: &Counts) -> Class {
@@ -201,17 +216,18 @@ impl Picture {
     }
 
     pub fn write(&self, path: &Path) -> io::Result<()> {
-        let file = BufWriter::new(File::create(path)?);
-        let side = |length: usize| u32::try_from(length).expect("a picture of some thousand points");
-        let mut png = png::Encoder::new(file, side(self.width), side(self.height));
-        png.set_color(png::ColorType::Indexed);
-        png.set_depth(png::BitDepth::Eight);
-        png.set_palette(PALETTE.concat());
-        png.add_text_chunk("Software".into(), "apfs-space-check".into())?;
-        png.add_text_chunk("Cells".into(), self.cells.clone())?;
-        let mut writer = png.write_header()?;
-        writer.write_image_data(&self.points)?;
-        Ok(writer.finish()?)
+        files::write(path, |file| {
+            let side = |length: usize| u32::try_from(length).expect("a picture of some thousand points");
+            let mut png = png::Encoder::new(file, side(self.width), side(self.height));
+            png.set_color(png::ColorType::Indexed);
+            png.set_depth(png::BitDepth::Eight);
+            png.set_palette(PALETTE.concat());
+            png.add_text_chunk("Software".into(), "apfs-space-check".into())?;
+            png.add_text_chunk("Cells".into(), self.cells.clone())?;
+            let mut writer = png.write_header()?;
+            writer.write_image_data(&self.points)?;
+            Ok(writer.finish()?)
+        })
     }
 }
 
@@ -225,23 +241,28 @@ fn titles(checked: &Checked, report: &Report, layout: &Layout) -> [String; 2] {
     [checked.title(), format!("xid {}   {verdict}   {blocks} blocks of {size} bytes   {cell}", report.xid)]
 }
 
-/// Every class with its blocks. Of blocks claimed twice and of problems the report names ten.
+/// Every class with the blocks that are drawn so, the loudest first.
 fn legend(report: &Report, counts: &Counts) -> Vec<(Class, String)> {
     let counted = |class: Class, name: &str| (class, format!("{name}: {}", counts[usize::from(class)]));
-    let named = |class: Class, name: &str, total: u64, shown: usize| match total == shown as u64 {
-        true => (class, format!("{name}: {total}")),
-        false => (class, format!("{name}: {total}, {shown} shown")),
-    };
-    let (overlaps, problems) = (&report.overlaps, &report.problems);
+    let (twice, problems) = (of_all(&report.overlaps), of_all(&report.problems));
     let mut legend = vec![
-        named(TWICE, "claimed twice", overlaps.total, overlaps.first.len()),
+        counted(TWICE, &format!("claimed twice{twice}")),
         counted(LOST, "in use but marked free (lost)"),
-        named(PROBLEM, "problem in the internal pool", problems.total, problems.first.len()),
+        counted(PROBLEM, &format!("problem in the internal pool{problems}")),
         counted(LEAKED, "marked, no owner found (leaked)"),
     ];
-    legend.extend(Kind::ALL.iter().map(|kind| counted(kind.number() as Class, kind.name())));
+    legend.extend(Kind::ALL.iter().map(|&kind| counted(class_of_kind(kind), kind.name())));
     legend.push(counted(FREE, "free"));
     legend
+}
+
+/// Says so where the report names only the first of those that were met.
+fn of_all<T>(log: &Log<T>) -> String {
+    if log.total > log.first.len() as u64 {
+        format!(", first {} of {}", log.first.len(), log.total)
+    } else {
+        String::new()
+    }
 }
 
 #[cfg(test)]

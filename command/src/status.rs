@@ -1,17 +1,28 @@
-//! Exit statuses. The worst of several images is the greatest.
+//! Exit statuses.
 
 use space_check::{Refusal, Report, Verdict};
 
-pub const CONSISTENT: u8 = 0;
-pub const INCONSISTENT: u8 = 1;
-pub const REFUSED: u8 = 2;
-/// No answer: an image could not be read, a file not be written, or the command line makes no sense.
-pub const UNREADABLE: u8 = 3;
+/// How a check ends. Of several images the worst counts, which is the greatest.
+#[derive(Clone, Copy, Debug, PartialEq, Eq, PartialOrd, Ord)]
+pub enum Status {
+    Consistent = 0,
+    Inconsistent = 1,
+    Refused = 2,
+    /// No answer: an image could not be read, a file not be written, or the command line makes no sense.
+    Unreadable = 3,
+}
 
-pub fn of(answer: &Result<Report, Refusal>) -> u8 {
-    match answer {
-        Ok(report) if report.verdict == Verdict::Consistent => CONSISTENT,
-        Ok(_) => INCONSISTENT,
-        Err(_) => REFUSED,
+impl Status {
+    pub fn of(answer: &Result<Report, Refusal>) -> Status {
+        match answer {
+            Ok(report) if report.verdict == Verdict::Consistent => Status::Consistent,
+            Ok(_) => Status::Inconsistent,
+            Err(_) => Status::Refused,
+        }
+    }
+
+    pub fn from_code(code: i32) -> Option<Status> {
+        let all = [Status::Consistent, Status::Inconsistent, Status::Refused, Status::Unreadable];
+        all.into_iter().find(|&status| status as i32 == code)
     }
 }

@@ -3,22 +3,18 @@
 //! The image is mapped, so that a read which the disk refuses ends the process by a signal. Here that becomes an error
 //! which names the image, and the next image is checked all the same.
 
-use std::env;
-use std::fs;
-use std::io::{self, Write};
-use std::os::unix::fs::{FileTypeExt, MetadataExt};
+use std::io::{self, Read, Write};
 use std::os::unix::process::ExitStatusExt;
 use std::path::{Path, PathBuf};
-use std::process::{Command, ExitStatus, Output, Stdio};
+use std::process::{self, Command, ExitStatus, Output, Stdio};
 use std::time::Duration;
+use std::{env, fs, thread};
 
 use indicatif::{HumanBytes, ProgressBar, ProgressState, ProgressStyle};
 
-use crate::arguments::Arguments;
-use crate::{disk, one, output, status};
-
-/// Tells a child which of the images of its command line it checks.
-const CHILD: &str = "APFS_SPACE_CHECK_IMAGE";
+use crate::arguments::{Arguments, ONLY_IMAGE};
+use crate::status::Status;
+use crate::{disk, one, output};
 
 /// From this length on an image may take long enough for a line that says so.
 const LARGE: u64 = 1 << 30;
@@ -26,52 +22,33 @@ const LARGE: u64 = 1 << 30;
 /// The signal that a refused read of a mapped file ends in.
 const SIGBUS: i32 = 7;
 
-pub fn image_of_child() -> Option<usize> {
-    env::var(CHILD).ok()?.parse().ok()
+/// In a child: ends it where its parent has ended, which held the other side of its standard input.
+pub fn end_with_parent() {
+    thread::spawn(|| {
+        // nothing is ever written there: a read comes back when the other side is closed
+        let _ = io::stdin().read(&mut [0]);
+        process::exit(Status::Unreadable as i32);
+    });
 }
 
 /// Checks the images one after another; the worst status.
-pub fn check_all(arguments: &Arguments, images: &[PathBuf]) -> u8 {
-    if let Err(reason) = outputs_are_safe(arguments, images) {
-        output::note(&reason);
-        return status::UNREADABLE;
-    }
+pub fn check_all(arguments: &Arguments, images: &[PathBuf]) -> Status {
     let statuses = images.iter().enumerate().map(|(at, image)| check_one(arguments, at, image));
-    statuses.max().unwrap_or(status::UNREADABLE)
+    statuses.max().unwrap_or(Status::Unreadable)
 }
 
-/// A slip of the pen must not write over a disk: neither over an image to check nor over any block device.
-fn outputs_are_safe(arguments: &Arguments, images: &[PathBuf]) -> Result<(), String> {
-    let identity = |path: &Path| fs::metadata(path).ok().map(|file| (file.dev(), file.ino()));
-    for path in arguments.outputs() {
-        let name = output::shown(path);
-        let there = fs::metadata(path);
-        if there.map_or(false, |file| file.file_type().is_block_device()) {
-            return Err(format!("{name}: a block device is never written to"));
-        }
-        let same = |image: &PathBuf| identity(image).is_some() && identity(image) == identity(path);
-        if images.iter().any(same) {
-            return Err(format!("{name}: an image to check is never written to"));
-        }
-    }
-    if arguments.map.is_some() && arguments.map == arguments.picture {
-        return Err("--map and --picture name the same file".into());
-    }
-    Ok(())
-}
-
-fn check_one(arguments: &Arguments, at: usize, image: &Path) -> u8 {
-    let name = output::shown(image);
+fn check_one(arguments: &Arguments, at: usize, image: &Path) -> Status {
     let ended = match run(arguments, at, image) {
         Ok(ended) => ended,
-        Err(reason) => return one::unreadable(arguments, &name, &format!("the check can't be started: {reason}")),
+        Err(reason) => return one::unreadable(arguments, image, &format!("the check can't be started: {reason}")),
     };
-    let printed = output::bytes(&ended.stdout);
+    let status = ended.status.code().and_then(Status::from_code);
+    let printed = output::print(&String::from_utf8_lossy(&ended.stdout), status.unwrap_or(Status::Unreadable));
     // where that can't be written there is no place left to say so
     let _ = io::stderr().write_all(&ended.stderr);
-    match ended.status.code().and_then(|code| u8::try_from(code).ok()) {
-        Some(code) if code <= status::UNREADABLE => code.max(printed),
-        _ => one::unreadable(arguments, &name, &reason_of(ended.status)),
+    match status {
+        Some(_) => printed,
+        None => one::unreadable(arguments, image, &reason_of(ended.status)),
     }
 }
 
@@ -85,11 +62,14 @@ fn reason_of(status: ExitStatus) -> String {
 /// This program on the same command line, of which it checks one image.
 fn run(arguments: &Arguments, at: usize, image: &Path) -> io::Result<Output> {
     let mut command = Command::new(env::current_exe()?);
-    command.args(env::args_os().skip(1)).env(CHILD, at.to_string());
-    let child = command.stdin(Stdio::null()).stdout(Stdio::piped()).stderr(Stdio::piped()).spawn()?;
+    command.arg(format!("--{ONLY_IMAGE}={at}")).args(env::args_os().skip(1));
+    let mut child = command.stdin(Stdio::piped()).stdout(Stdio::piped()).stderr(Stdio::piped()).spawn()?;
+    // held for as long as the child runs
+    let held = child.stdin.take();
     let length = disk::length_of(image).unwrap_or(0);
     let line = (!arguments.quiet && length >= LARGE).then(|| progress(image, length, child.id()));
     let output = child.wait_with_output();
+    drop(held);
     if let Some(line) = line {
         line.finish_and_clear();
     }

@@ -1,6 +1,7 @@
 """What the tests of apfs-space-check share: the command, the images with known answers, scratch files."""
 import json
 import os
+import struct
 import subprocess
 import sys
 import tempfile
@@ -81,3 +82,24 @@ class CommandTest(unittest.TestCase):
         answer = json.loads(out)
         self.assertEqual(answer['exit_status'], status)
         return answer
+
+
+def sealed(fields):
+    """A block of a superblock's fields, each at a place and of a width, with its checksum."""
+    block = bytearray(BLOCK)
+    for at, width, value in fields:
+        block[at:at + width] = value.to_bytes(width, 'little')
+    last = 2 ** 32 - 1
+    words = [word for word, in struct.iter_unpack('<I', block[8:256])]
+    total = sum(words)
+    running = sum((BLOCK // 4 - 2 - i) * word for i, word in enumerate(words))
+    low = last - (total + running) % last
+    block[:8] = struct.pack('<II', low, last - (total + low) % last)
+    return block
+
+
+def slow(superblocks):
+    """A container that takes the square of its superblocks in time: each is the best that is left, and has no map."""
+    head = [(24, 4, 1), (32, 4, int.from_bytes(b'NXSB', 'little')), (36, 4, BLOCK), (40, 8, superblocks + 1),
+            (104, 4, superblocks), (112, 8, 1), (140, 4, 2)]
+    return b''.join(sealed([*head, (16, 8, superblocks - i)]) for i in range(-1, superblocks))

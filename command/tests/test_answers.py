@@ -1,4 +1,5 @@
 """Every image of the fixed list, whose answers are the original's, through the command: JSON, listing and block map."""
+import struct
 import unittest
 
 from support import CONSISTENT, INCONSISTENT, REFUSED, CommandTest, known, lost_and_leaked
@@ -82,7 +83,8 @@ class Answers(CommandTest):
             self.assertIn(f"{image}: refused {v['answer'][0]}: {answer['refusal']['name']}; {answer['refusal']['next']}", err)
         else:
             self.names_agree(answer)
-            count = answer['block_count']
+            size, count = struct.unpack_from('<IQ', v['image'], 36)
+            self.assertEqual((answer['block_size'], answer['block_count']), (size, count))
             self.assertEqual(self.read('map'), v['left'][:count])
             self.assertEqual((err, answer['refusal']), ('', None))
         return v['answer'][0], v['answer'][78]

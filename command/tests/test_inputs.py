@@ -1,14 +1,28 @@
 """What the command is given: files, what is no file, disks with a GPT, block devices, disks that refuse reads."""
+import json
 import os
+import signal
+import struct
 import subprocess
+import time
 import unittest
+import zlib
 
-from support import BLOCK, CONSISTENT, INCONSISTENT, REFUSED, SAMPLE, UNREADABLE, CommandTest, lost_and_leaked, sample
+from support import (BLOCK, COMMAND, CONSISTENT, INCONSISTENT, REFUSED, SAMPLE, UNREADABLE, CommandTest, lost_and_leaked,
+                     sample, slow)
 
 APFS = '7C3457EF-0000-11AA-AA11-00306543ECAC'
 LINUX = '0FC63DAF-8483-4772-8E79-3D69D8477DE4'
 MIB = 1 << 20
 CONSISTENT_LINE = 'result     consistent: nothing in use is marked free, nothing is claimed twice\n'
+
+
+def is_running(process):
+    try:
+        with open(f'/proc/{process}/stat', encoding='utf-8') as file:
+            return file.read().rpartition(')')[2].split()[0] != 'Z'
+    except FileNotFoundError:
+        return False
 
 
 class Files(CommandTest):
@@ -22,12 +36,15 @@ class Files(CommandTest):
         self.assertEqual((status, out), (UNREADABLE, ''))
         self.assertIn('absent.img: No such file or directory', err)
 
-    def test_a_directory_and_a_pipe(self):
+    def test_what_is_no_file(self):
         os.mkdir(self.path('folder'))
         os.mkfifo(self.path('pipe'))
-        for name, reason in [('folder', 'it is a directory'), ('pipe', 'it is neither a file nor a block device')]:
+        neither = 'it is neither a file nor a block device'
+        for name, reason in [('folder', 'it is a directory'), ('pipe', neither), ('/dev/zero', neither)]:
             status, out, err = self.run_command(name)
             self.assertEqual((status, out, err), (UNREADABLE, '', f'apfs-space-check: {name}: {reason}\n'))
+            answer = self.json_of(name)
+            self.assertEqual((answer['image'], answer['answer'], answer['error']), (name, 'unreadable', reason))
 
     def test_an_empty_file(self):
         status, out, err = self.run_command(self.write('empty', b''))
@@ -40,7 +57,23 @@ class Files(CommandTest):
         self.assertIn('cut.img: refused 5: ', err)
 
     def test_a_longer_image(self):
-        self.assertEqual(self.run_command(self.write('long.img', sample() + b'more'))[0], CONSISTENT)
+        answer = self.json_of(self.write('long.img', sample() + bytes(2 * BLOCK)))
+        self.assertEqual((answer['answer'], answer['length'], answer['block_count']), ('consistent', 18 * BLOCK, 16))
+
+    def test_names(self):
+        """Any name that a file can have, and one that looks like an option."""
+        self.write('-V', lost_and_leaked())
+        self.assertEqual(self.run_command('--', '-V')[0], INCONSISTENT)
+        with open(os.path.join(os.fsencode(self.folder), b'\xff.img'), 'wb') as file:
+            file.write(lost_and_leaked())
+        status, out, _ = self.run_command(b'\xff.img')
+        self.assertEqual((status, out.splitlines()[0]), (INCONSISTENT, 'space check  \ufffd.img  xid 7'))
+        for name in 'a\nresult     consistent', 'a\x1b[2Jb':
+            image = self.write(name, lost_and_leaked())
+            _, out, _ = self.run_command(image)
+            shown = name.replace('\n', '\\n').replace('\x1b', '\\u{1b}')
+            self.assertEqual(out.splitlines()[0], f'space check  {shown}  xid 7')
+            self.assertEqual(self.json_of(image)['image'], name)
 
     def test_the_worst_of_several(self):
         good, bad = self.write('good.img', sample()), self.write('bad.img', lost_and_leaked())
@@ -49,11 +82,18 @@ class Files(CommandTest):
                              ([good, 'absent', cut], UNREADABLE)]:
             self.assertEqual(self.run_command(*names)[0], worst, names)
         # each has its own lines, in the order of the command line, whatever came before
-        _, out, err = self.run_command(cut, 'absent', bad, good)
-        self.assertTrue(out.startswith('refused 5\nspace check  bad.img  xid 7\n'), out)
-        self.assertTrue(out.endswith(CONSISTENT_LINE), out)
-        self.assertEqual(out.count('space check'), 2)
+        names = [cut, 'absent', good, good, good, good, bad]
+        _, out, err = self.run_command(*names)
+        self.assertTrue(out.startswith('refused 5\nspace check  good.img  xid 7\n'), out)
+        self.assertTrue(out.endswith('result     inconsistent\n'), out)
+        self.assertEqual((out.count('space check'), out.count(CONSISTENT_LINE)), (5, 4))
         self.assertIn('absent: No such file', err)
+        status, out, _ = self.run_command('--json', *names)
+        answers = [json.loads(line) for line in out.splitlines()]
+        self.assertEqual([answer['image'] for answer in answers], names)
+        self.assertEqual([answer['exit_status'] for answer in answers], [REFUSED, UNREADABLE, 0, 0, 0, 0, INCONSISTENT])
+        self.assertEqual({tuple(answer) for answer in answers}, {tuple(answers[0])}, 'the same keys in every line')
+        self.assertEqual(status, UNREADABLE)
 
     def test_images_are_not_written(self):
         image = self.write('disk.img', sample())
@@ -107,6 +147,8 @@ class Places(CommandTest):
         disk = self.disk((LINUX, b''), (APFS, sample()))
         status, out, _ = self.run_command(disk, '--offset', str(16 * MIB))
         self.assertEqual((status, out.splitlines()[0]), (CONSISTENT, 'space check  disk.img  xid 7'))
+        answer = self.json_of(disk, '--offset', str(16 * MIB))
+        self.assertEqual((answer['partition'], answer['offset'], answer['length']), (None, 16 * MIB, 48 * MIB))
         self.assertEqual(self.run_command(disk, '--offset', str(16 * MIB + 1))[:2], (REFUSED, 'refused 2\n'))
         self.assertEqual(self.run_command(disk, '--offset', str(64 * MIB))[:2], (REFUSED, 'refused 1\n'))
         status, _, err = self.run_command(disk, '--offset', str(64 * MIB + 1))
@@ -115,7 +157,9 @@ class Places(CommandTest):
 
     def test_a_partition_that_is_not_there(self):
         disk = self.disk((LINUX, b''), (APFS, sample()))
-        self.assertEqual(self.run_command(disk, '--partition', '1')[:2], (REFUSED, 'refused 2\n'))
+        status, out, err = self.run_command(disk, '--partition', '1')
+        self.assertEqual((status, out), (REFUSED, 'refused 2\n'))
+        self.assertIn('disk.img partition 1: refused 2: ', err)
         status, _, err = self.run_command(disk, '--partition', '3')
         self.assertEqual(status, UNREADABLE)
         self.assertIn('disk.img: no partition 3; its GPT has 1, 2 (APFS)', err)
@@ -134,14 +178,47 @@ class Places(CommandTest):
         self.assertEqual(status, UNREADABLE)
         self.assertIn('plain.img: it has no GPT', err)
 
+    def test_the_sixth_partition(self):
+        disk = self.disk(*[(LINUX, b'')] * 5, (APFS, lost_and_leaked()))
+        self.assertEqual(self.json_of(disk)['partition'], 6)
+
     def test_damaged_tables(self):
-        disk = self.disk((LINUX, b''), (APFS, sample()))
-        self.patch(2 * 512 + 128, b'\xff')  # an entry of the first table
-        status, out, err = self.run_command(disk)
-        self.assertEqual((status, out.splitlines()[0]), (CONSISTENT, 'space check  disk.img partition 2  xid 7'))
-        self.assertIn("disk.img: the GPT at the disk's start is damaged", err)
-        self.patch(64 * MIB - 512 + 40, b'\xff')  # the second table's header
-        self.assertEqual(self.run_command(disk)[:2], (REFUSED, 'refused 2\n'))
+        for sector in (512, 4096):
+            disk = self.disk((LINUX, b''), (APFS, sample()), sector=sector)
+            self.assertIsNone(self.json_of(disk)['note'])
+            self.patch(2 * sector + 128, b'\xff')  # an entry of the first table
+            status, out, err = self.run_command(disk)
+            self.assertEqual((status, out.splitlines()[0]), (CONSISTENT, 'space check  disk.img partition 2  xid 7'))
+            note = "the GPT at the disk's start is damaged: took the one at its end"
+            self.assertEqual(err, f'apfs-space-check: disk.img: {note}\n')
+            self.assertEqual(self.json_of(disk)['note'], note)
+            self.patch(64 * MIB - sector + 40, b'\xff')  # the second table's header
+            status, out, err = self.run_command(disk)
+            self.assertEqual((status, out), (UNREADABLE, ''))
+            self.assertIn('disk.img: its GPT is damaged at both ends', err)
+            self.assertEqual(self.run_command(disk, '--offset', str(16 * MIB))[0], CONSISTENT)
+
+    def forge(self, at, content):
+        """Changes the first header, or an entry of the first table, and makes its checksums right."""
+        self.patch(at, content)
+        disk = self.read('disk.img')
+        self.patch(512 + 88, struct.pack('<I', zlib.crc32(disk[1024:1024 + 128 * 128])))
+        header = bytearray(self.read('disk.img')[512:512 + 92])
+        header[16:20] = bytes(4)
+        self.patch(512 + 16, struct.pack('<I', zlib.crc32(header)))
+
+    def test_tables_that_make_no_sense(self):
+        """Their checksums are right, and the table at the disk's end would tell otherwise."""
+        disk = self.disk((APFS, sample()))
+        self.forge(1024 + 40, struct.pack('<Q', 3))  # the partition's last sector
+        status, _, err = self.run_command(disk)
+        self.assertEqual((status, err), (UNREADABLE, 'apfs-space-check: disk.img: partition 1 ends before it begins\n'))
+        for at, width, value in [(512 + 12, 4, 91), (512 + 12, 4, 2 ** 32 - 1), (512 + 80, 4, 2 ** 32 - 1), (512 + 84, 4, 64),
+                                 (512 + 84, 4, 2 ** 32 - 1), (512 + 72, 8, 2 ** 64 - 1), (1024 + 32, 8, 2 ** 63)]:
+            disk = self.disk((APFS, sample()))
+            self.forge(at, value.to_bytes(width, 'little'))
+            status, out, err = self.run_command(disk)
+            self.assertEqual((status, err.count("took the one at its end")), (CONSISTENT, 1), (at, value, out, err))
 
     def test_a_partition_cut_short(self):
         disk = self.disk((LINUX, b''), (APFS, sample()))
@@ -150,16 +227,23 @@ class Places(CommandTest):
         os.truncate(self.path(disk), 9 * MIB)
         self.assertEqual(self.run_command(disk)[0], UNREADABLE)
 
-    def test_a_container_behind_which_a_table_stands(self):
-        """A container that begins at byte 0 is taken, whatever table the disk's end still has."""
+    def test_what_older_use_has_left(self):
+        """Where an MBR says that there is a GPT, it counts, and else what begins at byte 0."""
         disk = self.disk((APFS, lost_and_leaked()))
-        self.patch(0, sample())
+        self.patch(0, sample()[:440])  # partitioning tools keep these bytes of a container that was there before
+        self.assertEqual(self.run_command(disk)[0], INCONSISTENT)
+        self.patch(0, sample())  # a container over the table at the start; the one at the end is still there
         self.assertEqual(self.run_command(disk)[0], CONSISTENT)
+        self.patch(0, bytes(len(sample())))
+        self.assertEqual(self.run_command(disk)[:2], (REFUSED, 'refused 2\n'))
+        self.assertEqual(self.run_command(disk, '--partition', '1')[0], UNREADABLE)
 
 
 class Devices(CommandTest):
     def loop(self, image):
-        attached = subprocess.run(['losetup', '--find', '--show', self.path(image)], capture_output=True, text=True, check=False)
+        """A block device that can't be written to."""
+        attached = subprocess.run(['losetup', '--find', '--show', '--read-only', self.path(image)], capture_output=True,
+                                  text=True, check=False)
         if attached.returncode != 0:
             self.skipTest(f'no loop device: {attached.stderr.strip()}')
         device = attached.stdout.strip()
@@ -171,8 +255,9 @@ class Devices(CommandTest):
         status, out, err = self.run_command(device)
         self.assertEqual((status, out.splitlines()[0], err), (CONSISTENT, f'space check  {device}  xid 7', ''))
         # and is never written to by a slip
-        status, _, err = self.run_command(SAMPLE, '--map', device)
-        self.assertEqual((status, err), (UNREADABLE, f'apfs-space-check: {device}: a block device is never written to\n'))
+        for option in '--map', '--picture':
+            status, _, err = self.run_command(SAMPLE, option, device)
+            self.assertEqual((status, err), (UNREADABLE, f'apfs-space-check: {device}: a block device is never written to\n'))
         self.assertEqual(self.read('disk.img'), bytes(sample()))
 
     def test_a_disk_that_refuses_reads(self):
@@ -186,6 +271,56 @@ class Devices(CommandTest):
         answer = self.json_of(device)
         self.assertEqual((answer['answer'], answer['report']), ('unreadable', None))
         self.assertIn('refused a read', answer['error'])
+
+
+class Meanwhile(CommandTest):
+    """What happens during a check, of a container that takes some seconds."""
+
+    def started(self, superblocks):
+        """The command and its child, in which the image is mapped."""
+        image = self.write('slow.img', slow(superblocks))
+        run = subprocess.Popen([COMMAND, image], cwd=self.folder, stdout=subprocess.PIPE, stderr=subprocess.PIPE, text=True)
+        self.addCleanup(run.communicate)
+        self.addCleanup(run.kill)
+        until = time.monotonic() + 10
+        while time.monotonic() < until:
+            found = subprocess.run(['pgrep', '--parent', str(run.pid)], capture_output=True, text=True, check=False).stdout
+            for child in found.split():
+                with open(f'/proc/{child}/maps', encoding='utf-8') as maps:
+                    if image in maps.read():
+                        return run, int(child)
+        self.fail('no child maps the image')
+
+    def test_the_image_is_cut(self):
+        run, _ = self.started(20000)
+        os.truncate(self.path('slow.img'), BLOCK)
+        out, err = run.communicate(timeout=60)
+        self.assertEqual((run.returncode, out), (UNREADABLE, ''))
+        self.assertIn('slow.img: the disk refused a read, or the file was cut short while it was checked', err)
+
+    def test_the_image_is_written_to(self):
+        run, _ = self.started(8000)
+        with open(self.path('slow.img'), 'r+b') as file:
+            file.write(bytes(1))
+        out, err = run.communicate(timeout=60)
+        self.assertEqual((run.returncode, out), (UNREADABLE, ''))
+        self.assertIn('slow.img: it was written to while it was checked', err)
+
+    def test_the_command_is_ended(self):
+        run, child = self.started(20000)
+        run.kill()
+        run.wait()
+        until = time.monotonic() + 3
+        while is_running(child) and time.monotonic() < until:
+            time.sleep(0.05)
+        self.assertFalse(is_running(child))
+
+    def test_the_child_is_ended(self):
+        run, child = self.started(20000)
+        os.kill(child, signal.SIGKILL)
+        out, err = run.communicate(timeout=60)
+        self.assertEqual((run.returncode, out), (UNREADABLE, ''))
+        self.assertIn('slow.img: the check ended without an answer (signal: 9', err)
 
 
 if __name__ == '__main__':

@@ -13,6 +13,10 @@ from support import (BLOCK, COMMAND, CONSISTENT, INCONSISTENT, REFUSED, ROOT, SA
 MIB = 1 << 20
 # the colours that docs/OPERATOR.md names
 FREE, LEAKED, PROBLEM, LOST, TWICE = 'e5e7eb', 'f59e0b', '92400e', 'dc2626', 'ff00ff'
+# in the legend's order
+NAMES = ['claimed twice', 'in use but marked free (lost)', 'problem in the internal pool', 'marked, no owner found (leaked)',
+         'container superblock', 'checkpoint descriptor area', 'checkpoint data area', 'internal pool',
+         'internal-pool bitmap ring', 'object map', 'object map node', 'volume superblock', 'free queue (pending release)', 'free']
 OWNERS = ['1f2937', '1d4ed8', '60a5fa', '0f766e', '5ed4c4', '6d28d9', 'a78bfa', '15803d', '86d99c']
 
 
@@ -38,16 +42,26 @@ def colour_of(byte):
     return LOST if owner else LEAKED if marked else FREE
 
 
+def font():
+    """The letters of the picture, by the rows of their points."""
+    with open(os.path.join(ROOT, 'command', 'src', 'font.rs'), encoding='utf-8') as file:
+        rows = re.findall(r'^    \[(0x.*?)\],', file.read(), re.MULTILINE)
+    letters = {tuple(int(row, 16) for row in letter.split(', ')): chr(32 + i) for i, letter in enumerate(rows)}
+    assert len(letters) == 95
+    return letters
+
+
 class Decoded:
     """A picture as netpbm's pngtopnm reads it."""
+    LETTERS = font()
+    MARGIN, LINE, INK = 16, 18, '111827'
 
     def __init__(self, test, name):
         pixels = test.must('pngtopnm', name)
-        kind, width, height, _, self.points = pixels.split(maxsplit=4) if pixels[:2] == b'P6' else (b'', 0, 0, 0, b'')
-        test.assertEqual(kind, b'P6')
-        self.width, self.height = int(width), int(height)
-        # a point may have the value of white space: what is left of the header is told by the length
-        self.points = pixels[len(pixels) - 3 * self.width * self.height:]
+        header = re.match(rb'P6\n(\d+) (\d+)\n255\n', pixels)
+        self.width, self.height = int(header[1]), int(header[2])
+        self.points = pixels[header.end():]
+        test.assertEqual(len(self.points), 3 * self.width * self.height)
         told = text_chunks(test.read(name))['Cells'].split()
         self.cells = {key: int(value) for key, value in zip(told[::2], told[1::2])}
 
@@ -55,15 +69,31 @@ class Decoded:
         at = 3 * (y * self.width + x)
         return self.points[at:at + 3].hex()
 
-    def cell(self, number):
-        row, column = divmod(number, self.cells['columns'])
-        middle = self.cells['size'] // 2
-        return self.point(self.cells['x'] + column * self.cells['size'] + middle,
-                          self.cells['y'] + row * self.cells['size'] + middle)
+    def row_of(self, cell):
+        """Where the middle of a cell's row is."""
+        return self.cells['y'] + cell // self.cells['columns'] * self.cells['size'] + self.cells['size'] // 2
 
-    def legend(self, below):
-        """The colours of a column of points through the legend's left and right half."""
-        return {self.point(x, y) for x in (self.cells['x'] + 1, self.width // 2 + 1) for y in range(below, self.height)}
+    def cell(self, number):
+        column = number % self.cells['columns']
+        return self.point(self.cells['x'] + column * self.cells['size'] + self.cells['size'] // 2, self.row_of(number))
+
+    def marks(self, cell):
+        """The colours beside a cell's row."""
+        return {self.point(x, self.row_of(cell)) for x in (self.MARGIN // 2, self.width - self.MARGIN // 2)}
+
+    def text(self, x, y):
+        """The letters of a line, up to two spaces."""
+        text = ''
+        while x + 7 <= self.width and not text.endswith('  '):
+            rows = (''.join('01'[self.point(x + i, y + j) == self.INK] for i in range(7)) for j in range(13))
+            text += self.LETTERS[tuple(int(row, 2) for row in rows)]
+            x += 7
+        return text.strip()
+
+    def legend(self):
+        """The text beside each colour."""
+        lines = ((x, self.height - self.MARGIN - i * self.LINE) for x in (self.MARGIN, self.width // 2) for i in range(1, 8))
+        return {self.point(x, y): self.text(x + 26, y) for x, y in lines}
 
 
 class Pictures(CommandTest):
@@ -73,40 +103,58 @@ class Pictures(CommandTest):
         self.assertEqual(err, '')
         return Decoded(self, 'picture.png'), self.read('map')
 
+    def legend_agrees(self, picture, expected, more=None):
+        """Every colour has its name, and the number of blocks drawn so."""
+        names = dict(zip([TWICE, LOST, PROBLEM, LEAKED, *OWNERS, FREE], NAMES))
+        for colour, after in (more or {}).items():
+            names[colour] += after
+        self.assertEqual(picture.legend(), {colour: f'{name}: {expected.count(colour)}' for colour, name in names.items()})
+
     def test_a_cell_for_each_block(self):
         picture, blocks = self.drawn(self.write('disk.img', lost_and_leaked()))
         self.assertEqual((picture.cells['blocks'], picture.cells['columns']), (1, 16))
-        self.assertEqual([picture.cell(i) for i in range(16)], [colour_of(byte) for byte in blocks])
-        self.assertEqual((picture.cell(8), picture.cell(9), picture.cell(10)), (OWNERS[5], LOST, LEAKED))
-        legend = picture.legend(picture.cells['y'] + picture.cells['size'])
-        self.assertLessEqual({FREE, LEAKED, PROBLEM, LOST, TWICE, *OWNERS}, legend)
+        expected = [colour_of(byte) for byte in blocks]
+        self.assertEqual([picture.cell(i) for i in range(16)], expected)
+        self.assertEqual(expected[8:11], [OWNERS[5], LOST, LEAKED])
+        self.assertEqual(picture.marks(0), {LOST})
+        self.legend_agrees(picture, expected)
+        self.assertEqual((picture.text(16, 16), picture.text(16, 34)), ('disk.img', 'xid 7'))
+        self.assertEqual(picture.text(16 + 7 * len('xid 7   '), 34), 'inconsistent')
+        self.assertEqual(picture.text(16 + 7 * len('xid 7   inconsistent   '), 34), '16 blocks of 4096 bytes')
+        picture, _ = self.drawn(self.write('disk.img', sample()))
+        self.assertEqual(picture.marks(0), {'ffffff'})
+        self.assertEqual(picture.text(16 + 7 * len('xid 7   '), 34), 'consistent')
 
     def test_blocks_that_the_report_names(self):
         """Images of the list with overlaps and problems: the blocks named are drawn so, whoever owns them."""
-        drawn = {TWICE: 0, PROBLEM: 0}
+        drawn, cut = {TWICE: 0, PROBLEM: 0}, 0
         for v in known():
-            if v['answer'][4] == 0 and v['answer'][28] == 0:
+            problems, overlaps = v['answer'][4], v['answer'][28]
+            if problems == 0 and overlaps == 0:
                 continue
             picture, blocks = self.drawn(self.write('disk.img', v['image']))
             expected = [colour_of(byte) for byte in blocks]
-            marks = [(block, PROBLEM) for block in v['answer'][6:25:2][:v['answer'][4]] if block < len(blocks)]
-            marks += [(block, TWICE) for block in v['answer'][29:59:3][:v['answer'][28]]]
+            marks = [(block, PROBLEM) for block in v['answer'][5:25][1::2][:problems] if block < len(blocks)]
+            marks += [(block, TWICE) for block in v['answer'][29:59:3][:overlaps]]
             # the louder colour stays: twice, lost, problem
             for block, colour in marks:
                 expected[block] = max(expected[block], colour, key=[FREE, LEAKED, *OWNERS, PROBLEM, LOST, TWICE].index)
                 drawn[colour] += 1
             self.assertEqual(picture.cells['blocks'], 1, v['name'])
             self.assertEqual([picture.cell(i) for i in range(len(blocks))], expected, v['name'])
-        self.assertGreater(min(drawn.values()), 5)
+            more = {colour: f', first 10 of {n}' for colour, n in ((PROBLEM, problems), (TWICE, overlaps)) if n > 10}
+            self.legend_agrees(picture, expected, more)
+            cut += bool(more)
+        self.assertGreater(min(*drawn.values(), cut), 5)
 
     def test_cells_of_several_blocks(self):
-        image = self.sparse('mkapfs.img', 520 * MIB)
+        image = self.sparse('mkapfs.img', 520 * MIB + BLOCK)  # the last row and the last cell aren't full
         self.must('mkapfs', image)
         picture, blocks = self.drawn(image)
         each = picture.cells['blocks']
-        self.assertEqual((each, len(blocks)), (4, 520 * MIB // BLOCK))
+        self.assertEqual((each, len(blocks)), (4, 520 * MIB // BLOCK + 1))
         seen = set()
-        for i in range(len(blocks) // each):
+        for i in range(-(-len(blocks) // each)):
             classes = {colour_of(byte) for byte in blocks[i * each:(i + 1) * each]}
             if len(classes) == 1:
                 self.assertEqual({picture.cell(i)}, classes, i)
@@ -116,33 +164,65 @@ class Pictures(CommandTest):
         self.assertTrue(leaked)
         self.assertEqual({picture.cell(block // each) for block in leaked}, {LEAKED})
 
+    def test_named_blocks_in_cells_of_several(self):
+        image = self.sparse('mkapfs.img', 520 * MIB)
+        self.must('mkapfs', image)
+        _, blocks = self.drawn(image)
+        with open(self.path(image), 'r+b') as file:
+            for block in (i for i, byte in enumerate(blocks) if byte & 15 == 5):  # the pool's bitmaps
+                file.seek(block * BLOCK)
+                file.write(bytes(BLOCK))
+        named = {problem['block'] for problem in self.json_of(image)['report']['problems']['first']}
+        self.assertEqual(named, {i for i, byte in enumerate(blocks) if byte & 32})
+        picture, _ = self.drawn(image)
+        self.assertEqual({picture.cell(block // 4) for block in named}, {PROBLEM})
+        self.assertEqual([picture.marks(block // 4) for block in named], [{PROBLEM}] * len(named))
+
 
 class WrittenFiles(CommandTest):
-    def test_an_image_is_no_output(self):
+    def test_a_disk_is_no_output(self):
         image = self.write('disk.img', sample())
         os.link(self.path(image), self.path('link'))
         os.symlink(image, self.path('symlink'))
+        other = self.write('other.img', lost_and_leaked())
+        gpt = self.sparse('gpt.img', MIB)
+        self.must('fdisk', gpt, input=b'g\nw\n')
+        reasons = dict.fromkeys([image, 'link', 'symlink'], 'an image to check is never written to')
+        reasons |= dict.fromkeys([other, gpt], 'it holds a disk, and is not written over')
+        before = [self.read(name) for name in reasons]
         for option in '--map', '--picture':
-            for name in image, 'link', 'symlink':
+            for name, reason in reasons.items():
                 status, out, err = self.run_command(image, option, name)
-                self.assertEqual((status, out), (UNREADABLE, ''))
-                self.assertIn('an image to check is never written to', err)
-        self.assertEqual(self.read(image), bytes(sample()))
+                self.assertEqual((status, out, err), (UNREADABLE, '', f'apfs-space-check: {name}: {reason}\n'))
+        self.assertEqual([self.read(name) for name in reasons], before)
 
     def test_files_that_make_no_sense(self):
         image = self.write('disk.img', sample())
         self.assertEqual(self.run_command(image, image, '--map', 'map')[0], UNREADABLE)
-        self.assertEqual(self.run_command(image, '--map', 'same', '--picture', 'same')[0], UNREADABLE)
-        status, out, err = self.run_command(image, '--map', 'absent/map')
-        self.assertEqual((status, out.count('consistent')), (UNREADABLE, 1))
-        self.assertIn('absent/map: No such file or directory', err)
+        for other in 'same', './same', os.path.join(self.folder, 'same'):
+            self.assertEqual(self.run_command(image, '--map', 'same', '--picture', other)[0], UNREADABLE)
+        for option in '--map', '--picture':
+            for name, reason in ('absent/file', 'No such file or directory'), ('/dev/full', 'No space left on device'):
+                status, out, err = self.run_command(image, option, name)
+                self.assertEqual((status, out.count('consistent')), (UNREADABLE, 1))
+                self.assertIn(f'{name}: {reason}', err)
+        self.assertEqual(os.listdir(self.folder), [image])
+
+    def test_a_file_is_replaced(self):
+        image = self.write('disk.img', sample())
+        self.write('file', b'before')
+        os.symlink('file', self.path('symlink'))
+        self.assertEqual(self.run_command(image, '--map', 'symlink')[0], CONSISTENT)
+        self.assertEqual((len(self.read('file')), os.path.islink(self.path('symlink'))), (16, True))
+        self.assertEqual(sorted(os.listdir(self.folder)), [image, 'file', 'symlink'])
 
     def test_a_refused_image_leaves_files_as_they_are(self):
         image = self.write('cut.img', sample()[:-1])
         self.write('map', b'before')
         status, _, err = self.run_command(image, '--map', 'map', '--picture', 'picture')
         self.assertEqual((status, self.read('map'), os.path.exists(self.path('picture'))), (REFUSED, b'before', False))
-        self.assertIn('apfs-space-check: map: not written: no report\napfs-space-check: picture: not written', err)
+        for name in 'map', 'picture':
+            self.assertIn(f'apfs-space-check: {name}: not written: there is no report\n', err)
 
 
 class Texts(CommandTest):
@@ -153,6 +233,11 @@ class Texts(CommandTest):
         options = set(re.findall(r'^ .*?(--[a-z]+)', out, re.MULTILINE))
         self.assertEqual(len(options), 10, options)
         return options
+
+    def test_version(self):
+        status, out, err = self.run_command('--version')
+        self.assertEqual((status, err), (CONSISTENT, ''))
+        self.assertRegex(out, r'^apfs-space-check \d+\.\d+\.\d+\n$')
 
     def test_quiet(self):
         good, bad = self.write('good.img', sample()), self.write('bad.img', lost_and_leaked())
@@ -169,7 +254,8 @@ class Texts(CommandTest):
             status, out, err = self.run_command('--explain', str(number))
             self.assertEqual((status, err, out.count('\n')), (CONSISTENT, '', 1))
             meaning, _, advice = out.removeprefix(f'refused {number}: ').strip().partition('; ')
-            self.assertIn(f'| {number} | {meaning} | {advice} |', page)
+            row = f'| {number} | {meaning} | {advice} |'
+            self.assertTrue(row in page, row)
             sentences.add(meaning)
         self.assertEqual(len(sentences), 22)
         for wrong in '0', '23', 'x':
@@ -196,12 +282,6 @@ class Texts(CommandTest):
             for option in self.options():
                 self.assertIn(option.removeprefix('--'), out)
         self.must('bash', '-n', input=self.run_command('--completions', 'bash')[1].encode())
-
-    def test_a_name_makes_up_no_lines(self):
-        name = 'disk\nresult     consistent'
-        self.write(name, lost_and_leaked())
-        _, out, _ = self.run_command(name)
-        self.assertEqual(out.splitlines()[0], 'space check  disk\\nresult     consistent  xid 7')
 
     def test_nobody_reads_the_output(self):
         reader, writer = os.pipe()
@@ -238,6 +318,7 @@ class Progress(CommandTest):
         self.must('mkapfs', image)
         shown, out = self.at_a_terminal(image)
         self.assertRegex(shown, r'checking large.img of 2\.00\s?GiB, .* read')
+        self.assertTrue(shown.endswith('\r\x1b[2K'), 'the line is cleared')
         self.assertTrue(out.startswith('space check  large.img  xid 1\n'), out)
         self.assertEqual(self.at_a_terminal('--quiet', image)[0], '')
         self.assertEqual(self.run_command(image)[2], '')

@@ -13,11 +13,14 @@
 //! ```
 //!
 //! The archive is looked for where `rt staticlib interface` writes it, in target/staticlib of the repository; another
-//! folder is named by the environment variable `SPACE_CHECK_DIR` when this crate is built.
+//! folder is named by the environment variable `SPACE_CHECK_DIR` when this crate is built. A relative path counts from
+//! the repository's root.
 //!
 //! An image may be a file that is mapped. Then nothing may change the file during the call, and a read that the disk
 //! refuses ends the process by a signal (`SIGBUS`): the command `apfs-space-check` runs each check in a process of its own
 //! for that reason.
+
+#![warn(missing_docs)]
 
 mod listing;
 mod map;

@@ -18,6 +18,7 @@ const POOL_USED: u8 = 0x20;
 pub struct Cell(pub u8);
 
 impl Cell {
+    /// The first that claimed it.
     pub fn owner(self) -> Option<Kind> {
         Kind::from_number((self.0 & OWNER).into())
     }

@@ -16,14 +16,17 @@ macro_rules! numbered {
             /// All cases, by their numbers.
             pub const ALL: &'static [$name] = &[$($name::$case,)+];
 
+            /// The number that reports have for it.
             pub fn number(self) -> u64 {
                 self as u64
             }
 
+            /// The case of a number, where there is one.
             pub fn from_number(number: u64) -> Option<$name> {
                 $name::ALL.iter().copied().find(|case| case.number() == number)
             }
 
+            /// Its name in words, which `Display` gives too.
             pub fn name(self) -> &'static str {
                 match self {
                     $($name::$case => $text,)+
@@ -87,24 +90,19 @@ numbered! {
         NoCheckpoint = 9, "no checkpoint can be read: no sound superblock has a map that loads";
         Incompatible = 10, "the container is of a pre-release format or spans a Fusion Drive";
         CountDiffers = 11, "the superblock in use and block 0 state different block counts";
-        PastContainer = 12, "an address lies past the end of the container, or is 0 where a block must stand";
-        BadChecksum = 13, "the checksum of a block or of the space manager is wrong";
-        WrongKind = 14, "an object is of another kind than its place asks for";
-        BadNode = 15, "a tree node or the object map's tree is laid out in an impossible way";
-        Unmapped = 16, "an object that the check needs is not in the checkpoint's map";
-        OutsideBytes = 17, "a field, an entry or a child pointer is missing or lies outside its bytes";
-        WrongLevel = 18, "a tree node stands on the wrong level";
-        AddressBlocks = 19, "the space manager is so large that it has address blocks, which this check does not follow";
+        PastContainer = 12, "a pointer leads past the end of the container, or to block 0 where something else must stand";
+        BadChecksum = 13, "a checksum does not match: something was damaged, or only partly written";
+        WrongKind = 14, "a block does not hold the kind of object that must stand there";
+        BadNode = 15, "a tree node is laid out in an impossible way, or the object map's tree is not of its usual form";
+        Unmapped = 16, "the checkpoint's map lacks an object that the check needs";
+        OutsideBytes = 17, "a list, an entry or a pointer is missing, or runs past the end of what holds it";
+        WrongLevel = 18, "a tree node stands on another level than its parent says";
+        AddressBlocks = 19, "the disk is so large that its space manager has address blocks, which this check does not follow";
         BadBitmap = 20, "a bitmap is too small for what it describes, or marks a block past the end of the container";
-        Overflow = 21, "a sum is too large, the space manager lies before its area, or queued blocks lie past the end";
-        TooManyNodes = 22, "the object map's tree is too deep, or has more nodes than the container has blocks";
-    }
-}
-
-impl Refusal {
-    /// Whether the block map is as it was handed in; after the other refusals it is 0 for each block.
-    pub fn keeps_map(self) -> bool {
-        self <= Refusal::CountDiffers
+        Overflow = 21, "numbers do not add up: a sum passes 64 bits, the space manager lies before its area, or queued blocks of the \
+             internal pool lie past the end of the container";
+        TooManyNodes = 22, "the object map's tree is too deep, or has more nodes than the container has blocks, as one that leads back \
+             into itself";
     }
 }
 

@@ -21,32 +21,41 @@ const FIRST_LOST: usize = 68;
 const LEAKED: usize = 77;
 const VERDICT: usize = 78;
 
-/// How many were met, and the first ten of them.
+/// Findings of one sort.
 #[derive(Clone, Debug, PartialEq, Eq)]
 pub struct Log<T> {
+    /// How many were met.
     pub total: u64,
+    /// The first of them, ten at most.
     pub first: Vec<T>,
 }
 
 /// A block of the internal pool, and what is wrong with it.
 #[derive(Clone, Copy, Debug, PartialEq, Eq)]
 pub struct Problem {
+    /// What is wrong.
     pub kind: ProblemKind,
+    /// The block's number.
     pub block: u64,
 }
 
 /// A block that was claimed a second time, by something else than its owner.
 #[derive(Clone, Copy, Debug, PartialEq, Eq)]
 pub struct Overlap {
+    /// The block's number.
     pub block: u64,
+    /// Who claimed it first, and keeps it.
     pub owner: Kind,
+    /// Who claimed it later.
     pub claimant: Kind,
 }
 
 /// Blocks that a kind owns and no bitmap marks.
 #[derive(Clone, Copy, Debug, PartialEq, Eq)]
 pub struct Lost {
+    /// Whose they are.
     pub kind: Kind,
+    /// How many.
     pub count: u64,
     /// The lowest of them.
     pub first: Option<u64>,
@@ -61,6 +70,7 @@ pub struct Report {
     pub pool_used: u64,
     /// Blocks of the internal pool that its bitmap marks and nothing uses.
     pub pool_unused: u64,
+    /// What is wrong with the internal pool.
     pub problems: Log<Problem>,
     /// Free blocks, as the bitmaps have them.
     pub free: u64,
@@ -68,11 +78,13 @@ pub struct Report {
     pub wrong_chunks: u64,
     /// The free count that the device states.
     pub device_free: u64,
+    /// Claims of blocks that something else owns; a block may be claimed more than once.
     pub overlaps: Log<Overlap>,
     /// Of every kind, in the order of their numbers.
     pub lost: Vec<Lost>,
     /// Blocks that are marked and that nothing claims.
     pub leaked: u64,
+    /// Consistent or not.
     pub verdict: Verdict,
 }
 
