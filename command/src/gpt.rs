@@ -20,10 +20,11 @@ const ENTRIES_SUM: usize = 88;
 
 /// The least length of an entry, and where its fields stand after the partition's type.
 const ENTRY: usize = 128;
-/// All entries of a table that is read are no longer: 64 times what tools make.
-const MOST_BYTES: usize = 1 << 20;
 const FIRST: usize = 32;
 const LAST: usize = 40;
+
+/// All entries of a table that is read have no more bytes: 64 times what tools make.
+const MOST_BYTES: usize = 1 << 20;
 
 /// 7C3457EF-0000-11AA-AA11-00306543ECAC, as it stands on a disk.
 const APFS: [u8; 16] = [0xef, 0x57, 0x34, 0x7c, 0x00, 0x00, 0xaa, 0x11, 0xaa, 0x11, 0x00, 0x30, 0x65, 0x43, 0xec, 0xac];

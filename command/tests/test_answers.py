@@ -1,8 +1,12 @@
 """Every image of the fixed list, whose answers are the original's, through the command: JSON, listing and block map."""
+import os
 import struct
+import subprocess
 import unittest
 
-from support import CONSISTENT, INCONSISTENT, REFUSED, CommandTest, known, lost_and_leaked
+from support import CONSISTENT, INCONSISTENT, REFUSED, ROOT, CommandTest, known, lost_and_leaked
+
+LISTING = os.path.join(ROOT, 'target', 'bin', 'listing')
 
 KINDS = ['container superblock', 'checkpoint descriptor area', 'checkpoint data area', 'internal pool',
          'internal-pool bitmap ring', 'object map', 'object map node', 'volume superblock',
@@ -96,6 +100,20 @@ class Answers(CommandTest):
                 met.add(self.agrees(v))
         every_refusal = {(n, 0) for n in range(1, 23)} - {(6, 0)}
         self.assertEqual(met, every_refusal | {(0, 1), (0, 2)})
+
+    def test_lines_are_those_of_the_proved_listing(self):
+        """The program crates/listing, whose lines are proved, on the images that it takes whole."""
+        if not os.path.exists(LISTING):
+            self.skipTest('`rt check listing` makes the program')
+        reports = 0
+        for v in known():
+            if len(v['image']) <= 65536:
+                image = self.write('stdin', v['image'])
+                with self.subTest(v['name']), open(self.path(image), 'rb') as stdin:
+                    proved = subprocess.run([LISTING], stdin=stdin, capture_output=True, check=True).stdout
+                    self.assertEqual(self.run_command(image)[1], proved.decode())
+                    reports += proved.startswith(b'space check')
+        self.assertGreater(reports, 100)
 
     def test_listing_of_lost_and_leaked(self):
         image = self.write('disk.img', lost_and_leaked())

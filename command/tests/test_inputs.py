@@ -277,7 +277,7 @@ class Meanwhile(CommandTest):
     """What happens during a check, of a container that takes some seconds."""
 
     def started(self, superblocks):
-        """The command and its child, in which the image is mapped."""
+        """The command and its child, stopped in the middle of the check."""
         image = self.write('slow.img', slow(superblocks))
         run = subprocess.Popen([COMMAND, image], cwd=self.folder, stdout=subprocess.PIPE, stderr=subprocess.PIPE, text=True)
         self.addCleanup(run.communicate)
@@ -288,20 +288,23 @@ class Meanwhile(CommandTest):
             for child in found.split():
                 with open(f'/proc/{child}/maps', encoding='utf-8') as maps:
                     if image in maps.read():
+                        os.kill(int(child), signal.SIGSTOP)
                         return run, int(child)
         self.fail('no child maps the image')
 
     def test_the_image_is_cut(self):
-        run, _ = self.started(20000)
+        run, child = self.started(20000)
         os.truncate(self.path('slow.img'), BLOCK)
+        os.kill(child, signal.SIGCONT)
         out, err = run.communicate(timeout=60)
         self.assertEqual((run.returncode, out), (UNREADABLE, ''))
         self.assertIn('slow.img: the disk refused a read, or the file was cut short while it was checked', err)
 
     def test_the_image_is_written_to(self):
-        run, _ = self.started(8000)
+        run, child = self.started(12000)
         with open(self.path('slow.img'), 'r+b') as file:
             file.write(bytes(1))
+        os.kill(child, signal.SIGCONT)
         out, err = run.communicate(timeout=60)
         self.assertEqual((run.returncode, out), (UNREADABLE, ''))
         self.assertIn('slow.img: it was written to while it was checked', err)
@@ -310,7 +313,8 @@ class Meanwhile(CommandTest):
         run, child = self.started(20000)
         run.kill()
         run.wait()
-        until = time.monotonic() + 3
+        os.kill(child, signal.SIGCONT)
+        until = time.monotonic() + 1.5
         while is_running(child) and time.monotonic() < until:
             time.sleep(0.05)
         self.assertFalse(is_running(child))
