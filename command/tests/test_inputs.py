@@ -178,6 +178,15 @@ class Places(CommandTest):
         self.assertEqual(status, UNREADABLE)
         self.assertIn('plain.img: it has no GPT', err)
 
+    def test_an_mbr(self):
+        """A disk with another table than a GPT is taken as a whole, though an old GPT stands at its end."""
+        disk = self.disk((APFS, sample()))
+        self.must('sfdisk', '--wipe', 'never', disk, input=b'label: dos\nstart=16384, type=af\n')
+        self.patch(512, bytes(8))
+        self.assertEqual(self.read(disk)[-512:-504], b'EFI PART')
+        self.assertEqual(self.run_command(disk)[:2], (REFUSED, 'refused 2\n'))
+        self.assertEqual(self.run_command(disk, '--offset', str(16384 * 512))[0], CONSISTENT)
+
     def test_the_sixth_partition(self):
         disk = self.disk(*[(LINUX, b'')] * 5, (APFS, lost_and_leaked()))
         self.assertEqual(self.json_of(disk)['partition'], 6)
@@ -199,11 +208,12 @@ class Places(CommandTest):
             self.assertEqual(self.run_command(disk, '--offset', str(16 * MIB))[0], CONSISTENT)
 
     def forge(self, at, content):
-        """Changes the first header, or an entry of the first table, and makes its checksums right."""
+        """Changes the first header, or an entry of the first table, and makes its checksums right as far as that goes."""
         self.patch(at, content)
         disk = self.read('disk.img')
-        self.patch(512 + 88, struct.pack('<I', zlib.crc32(disk[1024:1024 + 128 * 128])))
-        header = bytearray(self.read('disk.img')[512:512 + 92])
+        count, length = struct.unpack_from('<II', disk, 512 + 80)
+        self.patch(512 + 88, struct.pack('<I', zlib.crc32(disk[1024:1024 + count * length])))
+        header = bytearray(self.read('disk.img')[512:512 + struct.unpack_from('<I', disk, 512 + 12)[0]])
         header[16:20] = bytes(4)
         self.patch(512 + 16, struct.pack('<I', zlib.crc32(header)))
 
@@ -213,7 +223,7 @@ class Places(CommandTest):
         self.forge(1024 + 40, struct.pack('<Q', 3))  # the partition's last sector
         status, _, err = self.run_command(disk)
         self.assertEqual((status, err), (UNREADABLE, 'apfs-space-check: disk.img: partition 1 ends before it begins\n'))
-        for at, width, value in [(512 + 12, 4, 91), (512 + 12, 4, 2 ** 32 - 1), (512 + 80, 4, 2 ** 32 - 1), (512 + 84, 4, 64),
+        for at, width, value in [(512 + 12, 4, 17), (512 + 12, 4, 91), (512 + 12, 4, 513), (512 + 80, 4, 2 ** 32 - 1), (512 + 84, 4, 64),
                                  (512 + 84, 4, 2 ** 32 - 1), (512 + 72, 8, 2 ** 64 - 1), (1024 + 32, 8, 2 ** 63)]:
             disk = self.disk((APFS, sample()))
             self.forge(at, value.to_bytes(width, 'little'))

@@ -1,7 +1,9 @@
 """What the command writes: pictures, block maps, explanations, help, and the line of progress at a terminal."""
+import functools
 import os
 import pty
 import re
+import resource
 import struct
 import subprocess
 import unittest
@@ -215,6 +217,19 @@ class WrittenFiles(CommandTest):
         self.assertEqual(self.run_command(image, '--map', 'symlink')[0], CONSISTENT)
         self.assertEqual((len(self.read('file')), os.path.islink(self.path('symlink'))), (16, True))
         self.assertEqual(sorted(os.listdir(self.folder)), [image, 'file', 'symlink'])
+
+    def test_a_file_that_can_not_be_written_whole(self):
+        image = self.write('disk.img', sample())
+        self.write('file', b'before')
+        limit = functools.partial(resource.setrlimit, resource.RLIMIT_FSIZE, (8, 8))
+        for option in '--map', '--picture':
+            # Python ignores the signal that comes with the limit, and so does what it starts
+            done = subprocess.run([COMMAND, image, option, 'file'], cwd=self.folder, capture_output=True, check=False,
+                                  preexec_fn=limit, restore_signals=False)
+            self.assertEqual(done.returncode, UNREADABLE)
+            self.assertIn(b'apfs-space-check: file: File too large', done.stderr)
+            self.assertEqual(self.read('file'), b'before')
+        self.assertEqual(sorted(os.listdir(self.folder)), [image, 'file'])
 
     def test_a_refused_image_leaves_files_as_they_are(self):
         image = self.write('cut.img', sample()[:-1])
