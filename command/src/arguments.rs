@@ -48,7 +48,7 @@ pub struct Arguments {
     #[arg(long, value_name = "FILE")]
     pub picture: Option<PathBuf>,
 
-    /// Print errors alone
+    /// Print errors and warnings alone
     #[arg(long, short)]
     pub quiet: bool,
 
@@ -74,6 +74,7 @@ pub enum Task<'a> {
 
 impl Arguments {
     pub fn read() -> Result<Arguments, clap::Error> {
+        // not one of the derived options, which completions would offer
         let own = Arg::new(ONLY_IMAGE).long(ONLY_IMAGE).hide(true).value_parser(value_parser!(usize));
         let mut matches = Arguments::command().arg(own).try_get_matches()?;
         let only_image = matches.remove_one(ONLY_IMAGE);
@@ -117,5 +118,5 @@ pub fn complete(shell: Shell) -> Status {
     let mut command = Arguments::command();
     let name = command.get_name().to_string();
     generate(shell, &mut command, name, &mut script);
-    output::print(&String::from_utf8_lossy(&script), Status::Consistent)
+    output::print(script, Status::Consistent)
 }

@@ -3,10 +3,6 @@
 use crate::arguments::Arguments;
 use crate::gpt::{self, Partition, Table};
 
-/// Bytes 32 to 35 of a container's first block.
-const MAGIC: &[u8] = b"NXSB";
-const MAGIC_AT: usize = 32;
-
 pub struct Container<'a> {
     pub bytes: &'a [u8],
     pub offset: u64,
@@ -66,11 +62,6 @@ impl<'a> Container<'a> {
             _ => Err(format!("several APFS partitions: --partition names one; {}", listed(table))),
         }
     }
-}
-
-/// Whether these bytes begin as a container does.
-pub fn begins(disk: &[u8]) -> bool {
-    disk.get(MAGIC_AT..).map_or(false, |rest| rest.starts_with(MAGIC))
 }
 
 fn listed(table: &Table) -> String {

@@ -11,38 +11,38 @@ pub struct Disk {
     file: File,
     /// An empty file has nothing to map.
     bytes: Option<Mmap>,
-    written: Written,
+    changed: Changed,
 }
 
-/// When a file was last written to, and how long it is.
+/// When a file was last changed, which nobody can set back, and how long it is.
 #[derive(PartialEq, Eq)]
-struct Written(i64, i64, u64);
+struct Changed(i64, i64, u64);
 
-impl Written {
-    fn of(file: &Metadata) -> Written {
-        Written(file.mtime(), file.mtime_nsec(), file.len())
+impl Changed {
+    fn of(file: &Metadata) -> Changed {
+        Changed(file.ctime(), file.ctime_nsec(), file.len())
     }
 }
 
 impl Disk {
     pub fn open(path: &Path) -> io::Result<Disk> {
         let file = open(path)?;
-        let written = Written::of(&file.metadata()?);
+        let changed = Changed::of(&file.metadata()?);
         let length = length(&file)?;
         let bytes = if length == 0 { None } else { Some(map(&file, length)?) };
-        Ok(Disk { file, bytes, written })
+        Ok(Disk { file, bytes, changed })
     }
 
     pub fn bytes(&self) -> &[u8] {
         self.bytes.as_deref().unwrap_or_default()
     }
 
-    /// An answer on a file that was written to meanwhile would be one on no image at all.
+    /// An answer on a file that was changed meanwhile would be one on no image at all.
     pub fn unchanged(&self) -> io::Result<()> {
-        if Written::of(&self.file.metadata()?) == self.written {
+        if Changed::of(&self.file.metadata()?) == self.changed {
             Ok(())
         } else {
-            Err(other("it was written to while it was checked"))
+            Err(other("it was changed while it was checked"))
         }
     }
 }
@@ -85,21 +85,21 @@ mod tests {
     use super::*;
 
     #[test]
-    fn a_file_that_is_written_to() {
+    fn a_file_that_is_changed() {
         let path = std::env::temp_dir().join(format!("apfs-space-check-{}", std::process::id()));
         fs::write(&path, [1; 100]).unwrap();
         let disk = Disk::open(&path).unwrap();
         assert!(disk.unchanged().is_ok());
         assert_eq!(disk.bytes(), [1; 100]);
-        let written = |bytes: &[u8]| {
+        let changed = |bytes: &[u8]| {
             let disk = Disk::open(&path).unwrap();
             // a moment that the file's time tells from the one before
             std::thread::sleep(std::time::Duration::from_millis(20));
             fs::write(&path, bytes).unwrap();
             disk.unchanged().is_err()
         };
-        assert!(written(&[2; 100]), "as long as before");
-        assert!(written(&[2; 101]));
+        assert!(changed(&[2; 100]), "as long as before");
+        assert!(changed(&[2; 101]));
         fs::remove_file(&path).unwrap();
     }
 }

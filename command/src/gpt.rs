@@ -1,8 +1,11 @@
 //! Partition tables of the GPT form (UEFI specification, "GUID Partition Table Disk Layout").
 
-/// In the first sector of such a disk an MBR has a partition of this type, for programs that know MBRs alone.
+/// In the first sector of such a disk an MBR has a partition of this type, for programs that know MBRs alone. It begins at
+/// sector 1.
 const PROTECTIVE: u8 = 0xee;
-const MBR_TYPES: [usize; 4] = [450, 466, 482, 498];
+const MBR_ENTRIES: [usize; 4] = [446, 462, 478, 494];
+const MBR_TYPE: usize = 4;
+const MBR_START: usize = 8;
 const MBR_MAGIC_AT: usize = 510;
 const MBR_MAGIC: &[u8] = &[0x55, 0xaa];
 
@@ -50,7 +53,8 @@ pub struct Table {
 /// Whether a disk is one of a GPT. Tables that older use has left behind don't count.
 pub fn is_there(disk: &[u8]) -> bool {
     let magic = disk.get(MBR_MAGIC_AT..).map_or(false, |rest| rest.starts_with(MBR_MAGIC));
-    magic && MBR_TYPES.iter().any(|&at| disk[at] == PROTECTIVE)
+    let protective = |&at: &usize| disk[at + MBR_TYPE] == PROTECTIVE && u32_at(disk, at + MBR_START) == Some(1);
+    magic && MBR_ENTRIES.iter().any(protective)
 }
 
 /// The disk's table, where it has one whose checksums are right.

@@ -23,7 +23,7 @@ use status::Status;
 fn main() -> ExitCode {
     let status = match Arguments::read() {
         Ok(arguments) => match arguments.task() {
-            Task::Explain(refusal) => output::print(&format!("{}\n", explain::sentence(refusal)), Status::Consistent),
+            Task::Explain(refusal) => output::print(format!("{}\n", explain::sentence(refusal)), Status::Consistent),
             Task::Complete(shell) => arguments::complete(shell),
             Task::Check(images) => check(&arguments, images),
         },
@@ -33,7 +33,7 @@ fn main() -> ExitCode {
 }
 
 fn check(arguments: &Arguments, images: &[PathBuf]) -> Status {
-    if let Err(reason) = files::may_be_written(arguments, images) {
+    if let Err(reason) = files::may_be_written(arguments) {
         output::note(&reason);
         return Status::Unreadable;
     }

@@ -42,7 +42,7 @@ pub fn check(arguments: &Arguments, image: &Path) -> Status {
 pub fn unreadable(arguments: &Arguments, image: &Path, reason: &str) -> Status {
     output::note_of(image, reason);
     if arguments.json {
-        return output::print(&json::unreadable(image, reason), Status::Unreadable);
+        return output::print(json::unreadable(image, reason), Status::Unreadable);
     }
     Status::Unreadable
 }
@@ -77,12 +77,12 @@ fn print(arguments: &Arguments, checked: &Checked) -> Status {
         return status;
     }
     if arguments.json {
-        return output::print(&json::checked(checked), status);
+        return output::print(json::checked(checked), status);
     }
     match &checked.answer {
-        Ok(report) => output::print(&report.listing(&checked.title()).to_string(), status),
+        Ok(report) => output::print(report.listing(&checked.title()).to_string(), status),
         Err(refusal) => {
-            let printed = output::print(&format!("refused {}\n", refusal.number()), status);
+            let printed = output::print(format!("refused {}\n", refusal.number()), status);
             output::note(&format!("{}: {}", checked.title(), explain::sentence(*refusal)));
             printed
         }

@@ -11,10 +11,10 @@ pub fn shown(path: &Path) -> String {
     name.chars().map(|c| if c.is_control() { c.escape_default().to_string() } else { c.to_string() }).collect()
 }
 
-/// Prints a text. Where that can't be, there is no answer, whatever `status` it has.
-pub fn print(text: &str, status: Status) -> Status {
+/// Prints a text or other bytes. Where that can't be, there is no answer, whatever `status` it has.
+pub fn print(text: impl AsRef<[u8]>, status: Status) -> Status {
     let mut out = io::stdout();
-    match out.write_all(text.as_bytes()).and_then(|()| out.flush()) {
+    match out.write_all(text.as_ref()).and_then(|()| out.flush()) {
         Ok(()) => status,
         Err(reason) => {
             // whoever reads the lines has had enough of them

@@ -170,13 +170,13 @@ impl Picture {
         let told = format!("x {MARGIN} y {top} size {size} columns {columns} blocks {blocks_in_cell}");
         let mut picture = Picture { width, height, points: vec![PAPER; width * height], cells: told };
         for (i, line) in titles.iter().enumerate() {
-            picture.text(MARGIN, MARGIN + i * LINE, line);
+            picture.text(MARGIN, MARGIN + i * LINE, GRID, line);
         }
         picture.grid(&cells, top);
         for (i, (class, line)) in legend.iter().enumerate() {
             let (x, y) = (MARGIN + i / legend_rows * (GRID / 2), bottom + i % legend_rows * LINE);
             picture.fill(x, y, font::HEIGHT, font::HEIGHT, *class);
-            picture.text(x + 2 * font::HEIGHT, y, line);
+            picture.text(x + 2 * font::HEIGHT, y, GRID / 2 - 2 * font::HEIGHT, line);
         }
         picture
     }
@@ -204,9 +204,8 @@ impl Picture {
     }
 
     /// As many letters as there is room for.
-    fn text(&mut self, x: usize, y: usize, text: &str) {
-        let room = (self.width - MARGIN - x) / font::WIDTH;
-        for (i, letter) in text.chars().take(room).enumerate() {
+    fn text(&mut self, x: usize, y: usize, room: usize, text: &str) {
+        for (i, letter) in text.chars().take(room / font::WIDTH).enumerate() {
             for (down, row) in font::rows(letter).iter().enumerate() {
                 for across in (0..font::WIDTH).filter(|across| row >> (font::WIDTH - 1 - across) & 1 == 1) {
                     self.points[(y + down) * self.width + x + i * font::WIDTH + across] = INK;
@@ -248,7 +247,7 @@ fn legend(report: &Report, counts: &Counts) -> Vec<(Class, String)> {
     let mut legend = vec![
         counted(TWICE, &format!("claimed twice{twice}")),
         counted(LOST, "in use but marked free (lost)"),
-        counted(PROBLEM, &format!("problem in the internal pool{problems}")),
+        counted(PROBLEM, &format!("internal-pool problem{problems}")),
         counted(LEAKED, "marked, no owner found (leaked)"),
     ];
     legend.extend(Kind::ALL.iter().map(|&kind| counted(class_of_kind(kind), kind.name())));

@@ -14,7 +14,7 @@ use indicatif::{HumanBytes, ProgressBar, ProgressState, ProgressStyle};
 
 use crate::arguments::{Arguments, ONLY_IMAGE};
 use crate::status::Status;
-use crate::{disk, one, output};
+use crate::{disk, files, one, output};
 
 /// From this length on an image may take long enough for a line that says so.
 const LARGE: u64 = 1 << 30;
@@ -40,14 +40,13 @@ pub fn check_all(arguments: &Arguments, images: &[PathBuf]) -> Status {
 fn check_one(arguments: &Arguments, at: usize, image: &Path) -> Status {
     let ended = match run(arguments, at, image) {
         Ok(ended) => ended,
-        Err(reason) => return one::unreadable(arguments, image, &format!("the check can't be started: {reason}")),
+        Err(reason) => return one::unreadable(arguments, image, &format!("the check can't be run: {reason}")),
     };
-    let status = ended.status.code().and_then(Status::from_code);
-    let printed = output::print(&String::from_utf8_lossy(&ended.stdout), status.unwrap_or(Status::Unreadable));
     // where that can't be written there is no place left to say so
     let _ = io::stderr().write_all(&ended.stderr);
-    match status {
-        Some(_) => printed,
+    match ended.status.code().and_then(Status::from_code) {
+        Some(status) => output::print(ended.stdout, status),
+        // whatever it printed before is no answer
         None => one::unreadable(arguments, image, &reason_of(ended.status)),
     }
 }
@@ -66,10 +65,12 @@ fn run(arguments: &Arguments, at: usize, image: &Path) -> io::Result<Output> {
     let mut child = command.stdin(Stdio::piped()).stdout(Stdio::piped()).stderr(Stdio::piped()).spawn()?;
     // held for as long as the child runs
     let held = child.stdin.take();
+    let process = child.id();
     let length = disk::length_of(image).unwrap_or(0);
-    let line = (!arguments.quiet && length >= LARGE).then(|| progress(image, length, child.id()));
+    let line = (!arguments.quiet && length >= LARGE).then(|| progress(image, length, process));
     let output = child.wait_with_output();
     drop(held);
+    files::remove_partial(arguments, process);
     if let Some(line) = line {
         line.finish_and_clear();
     }

@@ -58,6 +58,10 @@ class CommandTest(unittest.TestCase):
         with open(self.path(name), 'rb') as file:
             return file.read()
 
+    def remove(self, name):
+        if os.path.exists(self.path(name)):
+            os.remove(self.path(name))
+
     def sparse(self, name, length):
         with open(self.path(name), 'wb') as file:
             file.truncate(length)

@@ -25,6 +25,21 @@ def is_running(process):
         return False
 
 
+def maps_of(process):
+    try:
+        with open(f'/proc/{process}/maps', encoding='utf-8') as maps:
+            return maps.read()
+    except (FileNotFoundError, ProcessLookupError):
+        return ''
+
+
+def end(process):
+    try:
+        os.kill(process, signal.SIGKILL)
+    except ProcessLookupError:
+        pass
+
+
 class Files(CommandTest):
     def test_the_sample(self):
         image = self.write('stdin', sample())
@@ -186,6 +201,9 @@ class Places(CommandTest):
         self.assertEqual(self.read(disk)[-512:-504], b'EFI PART')
         self.assertEqual(self.run_command(disk)[:2], (REFUSED, 'refused 2\n'))
         self.assertEqual(self.run_command(disk, '--offset', str(16384 * 512))[0], CONSISTENT)
+        disk = self.disk((APFS, sample()))
+        self.patch(446 + 8, b'\x05')  # where the partition of type 0xee begins: not with the GPT
+        self.assertEqual(self.run_command(disk)[:2], (REFUSED, 'refused 2\n'))
 
     def test_the_sixth_partition(self):
         disk = self.disk(*[(LINUX, b'')] * 5, (APFS, lost_and_leaked()))
@@ -271,8 +289,11 @@ class Devices(CommandTest):
         self.assertEqual(self.read('disk.img'), bytes(sample()))
 
     def test_a_disk_that_refuses_reads(self):
-        device = self.loop(self.write('disk.img', sample()))
-        os.truncate(self.path('disk.img'), BLOCK)
+        # large, so that whoever looks at new devices hasn't read all of it
+        image = self.sparse('disk.img', 256 * MIB)
+        self.must('mkapfs', image)
+        device = self.loop(image)
+        os.truncate(self.path(image), BLOCK)
         good = self.write('good.img', sample())
         status, out, err = self.run_command(device, good)
         self.assertEqual(status, UNREADABLE)
@@ -295,36 +316,39 @@ class Meanwhile(CommandTest):
         until = time.monotonic() + 10
         while time.monotonic() < until:
             found = subprocess.run(['pgrep', '--parent', str(run.pid)], capture_output=True, text=True, check=False).stdout
-            for child in found.split():
-                with open(f'/proc/{child}/maps', encoding='utf-8') as maps:
-                    if image in maps.read():
-                        os.kill(int(child), signal.SIGSTOP)
-                        return run, int(child)
+            for child in map(int, found.split()):
+                if image in maps_of(child):
+                    os.kill(child, signal.SIGSTOP)
+                    self.addCleanup(end, child)
+                    return run, child
         self.fail('no child maps the image')
 
     def test_the_image_is_cut(self):
         run, child = self.started(20000)
         os.truncate(self.path('slow.img'), BLOCK)
         os.kill(child, signal.SIGCONT)
-        out, err = run.communicate(timeout=60)
+        out, err = run.communicate(timeout=300)
         self.assertEqual((run.returncode, out), (UNREADABLE, ''))
         self.assertIn('slow.img: the disk refused a read, or the file was cut short while it was checked', err)
 
     def test_the_image_is_written_to(self):
-        run, child = self.started(12000)
+        run, child = self.started(20000)
+        before = os.stat(self.path('slow.img'))
         with open(self.path('slow.img'), 'r+b') as file:
             file.write(bytes(1))
+        # as tools that copy times do
+        os.utime(self.path('slow.img'), ns=(before.st_atime_ns, before.st_mtime_ns))
         os.kill(child, signal.SIGCONT)
-        out, err = run.communicate(timeout=60)
+        out, err = run.communicate(timeout=300)
         self.assertEqual((run.returncode, out), (UNREADABLE, ''))
-        self.assertIn('slow.img: it was written to while it was checked', err)
+        self.assertIn('slow.img: it was changed while it was checked', err)
 
     def test_the_command_is_ended(self):
-        run, child = self.started(20000)
+        run, child = self.started(40000)  # which would go on for longer than is waited here
         run.kill()
         run.wait()
         os.kill(child, signal.SIGCONT)
-        until = time.monotonic() + 1.5
+        until = time.monotonic() + 5
         while is_running(child) and time.monotonic() < until:
             time.sleep(0.05)
         self.assertFalse(is_running(child))
@@ -332,7 +356,7 @@ class Meanwhile(CommandTest):
     def test_the_child_is_ended(self):
         run, child = self.started(20000)
         os.kill(child, signal.SIGKILL)
-        out, err = run.communicate(timeout=60)
+        out, err = run.communicate(timeout=300)
         self.assertEqual((run.returncode, out), (UNREADABLE, ''))
         self.assertIn('slow.img: the check ended without an answer (signal: 9', err)
 

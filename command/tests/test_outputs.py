@@ -1,5 +1,6 @@
 """What the command writes: pictures, block maps, explanations, help, and the line of progress at a terminal."""
 import functools
+import json
 import os
 import pty
 import re
@@ -16,7 +17,7 @@ MIB = 1 << 20
 # the colours that docs/OPERATOR.md names
 FREE, LEAKED, PROBLEM, LOST, TWICE = 'e5e7eb', 'f59e0b', '92400e', 'dc2626', 'ff00ff'
 # in the legend's order
-NAMES = ['claimed twice', 'in use but marked free (lost)', 'problem in the internal pool', 'marked, no owner found (leaked)',
+NAMES = ['claimed twice', 'in use but marked free (lost)', 'internal-pool problem', 'marked, no owner found (leaked)',
          'container superblock', 'checkpoint descriptor area', 'checkpoint data area', 'internal pool',
          'internal-pool bitmap ring', 'object map', 'object map node', 'volume superblock', 'free queue (pending release)', 'free']
 OWNERS = ['1f2937', '1d4ed8', '60a5fa', '0f766e', '5ed4c4', '6d28d9', 'a78bfa', '15803d', '86d99c']
@@ -100,6 +101,8 @@ class Decoded:
 
 class Pictures(CommandTest):
     def drawn(self, image):
+        self.remove('picture.png')
+        self.remove('map')
         status, _, err = self.run_command(image, '--picture', 'picture.png', '--map', 'map')
         self.assertIn(status, (CONSISTENT, INCONSISTENT))
         self.assertEqual(err, '')
@@ -182,21 +185,19 @@ class Pictures(CommandTest):
 
 
 class WrittenFiles(CommandTest):
-    def test_a_disk_is_no_output(self):
+    def test_nothing_is_written_over(self):
+        """Not the image, under whichever name, and no other file: it may hold a disk."""
         image = self.write('disk.img', sample())
         os.link(self.path(image), self.path('link'))
         os.symlink(image, self.path('symlink'))
-        other = self.write('other.img', lost_and_leaked())
-        gpt = self.sparse('gpt.img', MIB)
-        self.must('fdisk', gpt, input=b'g\nw\n')
-        reasons = dict.fromkeys([image, 'link', 'symlink'], 'an image to check is never written to')
-        reasons |= dict.fromkeys([other, gpt], 'it holds a disk, and is not written over')
-        before = [self.read(name) for name in reasons]
+        names = [image, 'link', 'symlink', self.write('other', b'?')]
+        before = [self.read(name) for name in names]
         for option in '--map', '--picture':
-            for name, reason in reasons.items():
+            for name in names:
                 status, out, err = self.run_command(image, option, name)
-                self.assertEqual((status, out, err), (UNREADABLE, '', f'apfs-space-check: {name}: {reason}\n'))
-        self.assertEqual([self.read(name) for name in reasons], before)
+                self.assertEqual((status, out), (UNREADABLE, ''))
+                self.assertEqual(err, f'apfs-space-check: {name}: it is there already, and is not written over\n')
+        self.assertEqual([self.read(name) for name in names], before)
 
     def test_files_that_make_no_sense(self):
         image = self.write('disk.img', sample())
@@ -210,32 +211,48 @@ class WrittenFiles(CommandTest):
                 self.assertIn(f'{name}: {reason}', err)
         self.assertEqual(os.listdir(self.folder), [image])
 
-    def test_a_file_is_replaced(self):
+    def test_an_empty_file_is_filled(self):
         image = self.write('disk.img', sample())
-        self.write('file', b'before')
-        os.symlink('file', self.path('symlink'))
+        self.write('empty', b'')
+        os.symlink('empty', self.path('symlink'))
         self.assertEqual(self.run_command(image, '--map', 'symlink')[0], CONSISTENT)
-        self.assertEqual((len(self.read('file')), os.path.islink(self.path('symlink'))), (16, True))
-        self.assertEqual(sorted(os.listdir(self.folder)), [image, 'file', 'symlink'])
+        self.assertEqual((len(self.read('empty')), os.path.islink(self.path('symlink'))), (16, True))
+        self.assertEqual(sorted(os.listdir(self.folder)), [image, 'empty', 'symlink'])
+
+    def test_standard_output_as_a_file(self):
+        image = self.write('disk.img', sample())
+        self.run_command(image, '--picture', 'picture', '--map', 'map')
+        for option, name in ('--picture', 'picture'), ('--map', 'map'):
+            printed = self.must(COMMAND, '--quiet', option, '/dev/stdout', image)
+            self.assertEqual(printed, self.read(name))
+
+    def limited(self, *arguments, restore_signals):
+        """The command, where no file may have more than eight bytes."""
+        limit = functools.partial(resource.setrlimit, resource.RLIMIT_FSIZE, (8, 8))
+        return subprocess.run([COMMAND, *arguments], cwd=self.folder, capture_output=True, check=False, preexec_fn=limit,
+                              restore_signals=restore_signals)
 
     def test_a_file_that_can_not_be_written_whole(self):
         image = self.write('disk.img', sample())
-        self.write('file', b'before')
-        limit = functools.partial(resource.setrlimit, resource.RLIMIT_FSIZE, (8, 8))
         for option in '--map', '--picture':
             # Python ignores the signal that comes with the limit, and so does what it starts
-            done = subprocess.run([COMMAND, image, option, 'file'], cwd=self.folder, capture_output=True, check=False,
-                                  preexec_fn=limit, restore_signals=False)
+            done = self.limited(image, option, 'file', restore_signals=False)
             self.assertEqual(done.returncode, UNREADABLE)
             self.assertIn(b'apfs-space-check: file: File too large', done.stderr)
-            self.assertEqual(self.read('file'), b'before')
-        self.assertEqual(sorted(os.listdir(self.folder)), [image, 'file'])
+            self.assertEqual(os.listdir(self.folder), [image])
 
-    def test_a_refused_image_leaves_files_as_they_are(self):
+    def test_a_child_that_ends_while_it_writes(self):
+        """It has printed its answer by then, which counts no more, and has begun a file, which is removed."""
+        image = self.write('disk.img', sample())
+        done = self.limited('--json', image, '--map', 'file', restore_signals=True)
+        self.assertEqual((done.returncode, done.stdout.count(b'\n')), (UNREADABLE, 1))
+        self.assertEqual(json.loads(done.stdout)['answer'], 'unreadable')
+        self.assertEqual(os.listdir(self.folder), [image])
+
+    def test_a_refused_image_has_no_files(self):
         image = self.write('cut.img', sample()[:-1])
-        self.write('map', b'before')
         status, _, err = self.run_command(image, '--map', 'map', '--picture', 'picture')
-        self.assertEqual((status, self.read('map'), os.path.exists(self.path('picture'))), (REFUSED, b'before', False))
+        self.assertEqual((status, os.listdir(self.folder)), (REFUSED, [image]))
         for name in 'map', 'picture':
             self.assertIn(f'apfs-space-check: {name}: not written: there is no report\n', err)
 
@@ -314,19 +331,18 @@ class Progress(CommandTest):
     def at_a_terminal(self, *arguments):
         """Standard error as a terminal shows it, and standard output."""
         terminal, stderr = pty.openpty()
-        with subprocess.Popen([COMMAND, *arguments], cwd=self.folder, stdout=subprocess.PIPE, stderr=stderr) as run:
-            os.close(stderr)
-            out, shown = run.stdout.read(), b''
-            while True:
-                try:
-                    part = os.read(terminal, 4096)
-                except OSError:  # how Linux tells that the other side is closed
-                    part = b''
-                if not part:
-                    break
-                shown += part
+        with open(self.path('out'), 'wb') as out:
+            run = subprocess.Popen([COMMAND, *arguments], cwd=self.folder, stdout=out, stderr=stderr)
+        os.close(stderr)
+        shown = b''
+        while True:
+            try:
+                shown += os.read(terminal, 4096)
+            except OSError:  # how Linux tells that the other side is closed
+                break
         os.close(terminal)
-        return shown.decode(), out.decode()
+        run.wait()
+        return shown.decode(), self.read('out').decode()
 
     def test_a_large_image(self):
         image = self.sparse('large.img', 2048 * MIB)
