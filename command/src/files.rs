@@ -41,7 +41,7 @@ fn partial(path: &Path, process: u32) -> PathBuf {
     path.with_file_name(name)
 }
 
-/// Removes what a process that was ended has left unfinished.
+/// Removes what a process that has ended left unfinished.
 pub fn remove_partial(arguments: &Arguments, process: u32) {
     for path in arguments.outputs() {
         // most often there is none
@@ -49,20 +49,15 @@ pub fn remove_partial(arguments: &Arguments, process: u32) {
     }
 }
 
-/// Writes a file under another name, and gives it its own once it is whole.
+/// Writes a file under another name, and gives it its own once it is whole; the parent removes one that isn't.
 pub fn write(path: &Path, fill: impl FnOnce(&mut dyn Write) -> io::Result<()>) -> io::Result<()> {
     if fs::metadata(path).map_or(false, |there| !there.is_file()) {
         // a pipe or the like stays what it is
         return filled(OpenOptions::new().write(true).open(path)?, fill);
     }
     let partial = partial(path, process::id());
-    let file = OpenOptions::new().write(true).create_new(true).open(&partial)?;
-    let placed = filled(file, fill).and_then(|()| fs::rename(&partial, place(path)));
-    if placed.is_err() {
-        // the error is told, and what can't be removed shows by its name what it is
-        let _ = fs::remove_file(&partial);
-    }
-    placed
+    filled(OpenOptions::new().write(true).create_new(true).open(&partial)?, fill)?;
+    fs::rename(&partial, place(path))
 }
 
 fn filled(file: File, fill: impl FnOnce(&mut dyn Write) -> io::Result<()>) -> io::Result<()> {
