@@ -9,7 +9,7 @@ use lib.Bits.{bitAnd, and-le-l, and-le-r}
 use lib.Dec.{T, eqb, eqb→eq}
 use Rattle.fields.specs.Choice.{pick}
 use Rattle.fields.specs.Fields.{bit}
-use Rattle.audit.specs.Bits.{onesIn}
+use Rattle.audit.specs.contracts.Bits.{onesIn}
 
 one-few : (on : Bool) → pick on 1 0 ≤ 1
 one-few true = omega arith

@@ -1,22 +1,24 @@
 -- Laws of runs that log nothing.
 use mathlib.Core.Bool.{Bool, true, false, not, _&&_}
 use mathlib.Core.List.{List}
-use mathlib.Core.Path.{_≡_, refl, sym, ap, _∙_}
+use mathlib.Core.Path.{_≡_, refl, ap, _∙_}
 use Prim.Native.Nat.{ℕ, zero, suc, _+_, _-_, _^_, _≤_, _<_}
 use native.Mathlib.Omega.{arith}
 use borrow.Author.Tests.{leb-true}
 use lib.Dec.{leb}
-use Rattle.blocks.specs.Reads.{given, run, _>>=_}
+use Rattle.blocks.specs.Reads.{Outcome, given, refused, run, _>>=_}
 use Rattle.blocks.specs.declared.Container.{Container}
+use Rattle.blocks.specs.declared.Refusal.{Refusal}
 use Rattle.blocks.proofs.Laws.{and-left, and-right, then-given, need-true}
 use Rattle.nodes.specs.Node.{Entry}
 use Rattle.queue.specs.Queue.{runOf}
 use Rattle.queue.specs.declared.Run.{Run}
-use Rattle.block_map.specs.BlockMap.{Kept, Unlogged, update, usedAt, used}
+use Rattle.block_map.specs.contracts.Maps.{Kept, Unlogged}
+use Rattle.block_map.specs.BlockMap.{update, usedAt, used}
 use Rattle.block_map.proofs.Laws.{update-other, was-made, kept-same, kept-then, kept-update}
 use Rattle.pool.specs.Pool.{Pool, poolMarked}
-use Rattle.audit.specs.Audit.{unless, enter, auditQueuedFrom, auditQueued}
-use Rattle.audit.specs.Unlogged.{allUnused, usedFrom}
+use Rattle.audit.specs.Audit.{unless, auditUse, enter, auditQueuedBlock, auditQueuedFrom, auditQueued}
+use Rattle.audit.specs.contracts.Unlogged.{allUnused, usedFrom, unloggedRun}
 use Rattle.audit.specs.declared.Audit.{Audit}
 use Rattle.audit.proofs.Laws.{none-left, one-less}
 
@@ -34,10 +36,10 @@ module _ (c : Container) (p : Pool) where
   -- a block that is unused and marked logs nothing, and so do all
   one-unlogged : (left a : ℕ) (map : List ℕ) (figures : Audit) → not (usedAt c map a) ≡ true → poolMarked p a ≡ true
       → auditQueuedFrom c p (suc left) a (record { map = map; figures = figures }) ≡ auditQueuedFrom c p left (a + 1) (record { map = update used a map; figures = figures })
-  unfolding auditQueuedFrom unless enter _>>=_
+  unfolding auditQueuedFrom auditQueuedBlock auditUse unless enter _>>=_
   one-unlogged left a map figures unused marked = rw (marked, unused) refl
 
-  pub all-unlogged : (f : ℕ → List ℕ) (left a : ℕ) (map : List ℕ) (figures : Audit) → allUnused c p map left a ≡ true
+  all-unlogged : (f : ℕ → List ℕ) (left a : ℕ) (map : List ℕ) (figures : Audit) → allUnused c p map left a ≡ true
       → run f (auditQueuedFrom c p left a (record { map = map; figures = figures })) ≡ given (record { map = usedFrom left a map; figures = figures })
   unfolding allUnused usedFrom auditQueuedFrom run
   all-unlogged f zero a map figures e = refl
@@ -49,12 +51,27 @@ module _ (c : Container) (p : Pool) where
       ap (run f) (one-unlogged left a map figures (and-left unused marked both) (and-right unused marked both))
       ∙ all-unlogged f left (a + 1) (update used a map) figures (all-later-same map a left (a + 1) (omega arith) ∙ and-right (unused && marked) rest e)
 
+-- what an entry names, by whether it is a run, the container has it, and its blocks are unused and marked
+module _ (c : Container) (p : Pool) (map : List ℕ) (o : Outcome Run) where
+  pub unlogged-refused : (r : Refusal) → o ≡ refused r → false ≡ unloggedRun c p map o
+  unfolding unloggedRun
+  unlogged-refused r e = rw e refl
+
+  module _ (x : Run) (e : o ≡ given x) where
+    pub unlogged-past : leb (x .start + x .count) (c .count) ≡ false → false ≡ unloggedRun c p map o
+    unfolding unloggedRun
+    unlogged-past t = rw (e, t) refl
+
+    pub unlogged-is : (r : Bool) → leb (x .start + x .count) (c .count) ≡ true → allUnused c p map (x .count) (x .start) ≡ r → r ≡ unloggedRun c p map o
+    unfolding unloggedRun
+    unlogged-is r t h = rw (e, t, h) refl
+
 -- no block number of a run that the container has passes 2^64
 pub run-fits : (end count : ℕ) → leb end count ≡ true → count < 2 ^ 64 → end < 2 ^ 64
 run-fits end count t h = omega (arith, leb-true end count t)
 
 -- bytes past the block count are kept, where the container has the run
-pub kept-run : (count left a : ℕ) (map : List ℕ) → a + left ≤ count → Kept count map (usedFrom left a map)
+kept-run : (count left a : ℕ) (map : List ℕ) → a + left ≤ count → Kept count map (usedFrom left a map)
 unfolding usedFrom
 kept-run count zero a map h = kept-same count map
 kept-run count (suc left) a map h = kept-then _ _ _ _ (kept-update count used a map (omega arith)) (kept-run count left (a + 1) (update used a map) (omega arith))

@@ -2,7 +2,7 @@
 use mathlib.Core.Bool.{Bool, true, false}
 use mathlib.Core.List.{List}
 use mathlib.Core.Path.{_≡_, refl, sym, ap, _∙_}
-use Prim.Native.Nat.{ℕ, zero, suc, _+_, _-_, _*_, _^_, _≤_, _<_}
+use Prim.Native.Nat.{ℕ, zero, suc, _+_, _-_, _*_, _%_, _^_, _≤_, _<_}
 use native.Mathlib.Nat.{add-zero, zero-add, suc-add}
 use native.Mathlib.Omega.{arith}
 use lib.ListN.{length, getD, set}
@@ -13,13 +13,14 @@ use Rattle.fields.specs.Fields.{bit, bitAt}
 use Rattle.blocks.specs.Reads.{run, need, _>>=_}
 use Rattle.blocks.specs.Blocks.{sum}
 use Rattle.blocks.specs.declared.Container.{Container}
-use Rattle.block_map.specs.BlockMap.{Marked, Kept, update, marked}
+use Rattle.block_map.specs.BlockMap.{Marked, update, marked}
+use Rattle.block_map.specs.contracts.Maps.{Kept}
 use Rattle.block_map.proofs.Laws.{update-set, kept-same, kept-then, kept-update}
 use Rattle.pool.proofs.Laws.{bit-read-of, bit-none}
-use Rattle.report.specs.declared.Step.{Step}
-use Rattle.audit.specs.Audit.{markFrom}
-use Rattle.audit.specs.Answers.{Stepped}
-use Rattle.audit.specs.Bits.{bitMarked, bitsMarked, onesIn}
+use Rattle.report.specs.declared.Ending.{Ending}
+use Rattle.audit.specs.Audit.{markSet, markBit, markFrom}
+use Rattle.report.specs.contracts.Steps.{Stepped}
+use Rattle.audit.specs.contracts.Bits.{bitMarked, bitsMarked, onesIn}
 use Rattle.audit.proofs.Laws.{none-left}
 use Rattle.audit.proofs.OnesLaws.{ones-few}
 
@@ -97,13 +98,13 @@ module _ (bits : List ℕ) (start : ℕ) where
       rw (bits-last m (8 * j) s, ← there) (omega (arith, bits-counted j m s (omega arith), bit-counted (bit m (getD bits j 0)) (start + (8 * j + m)) (bitsMarked bits start m (8 * j) s)))
 
   -- one bit of byte j, as the code writes its block
-  pub byte-more : (j k : ℕ) (map : List ℕ) (a b y : ℕ) (on : Bool) (whole : List ℕ) → k < 8 → b ≡ getD bits j 0 → on ≡ bit k b → a ≡ start + (8 * j + k) → y ≡ pick on (marked (getD map a 0)) (getD map a 0)
+  pub byte-more : (j k : ℕ) (map : List ℕ) (a b y : ℕ) (on : Bool) (whole : List ℕ) → k < 8 → b ≡ getD bits j 0 → on ≡ bit (k % 8) b → a ≡ start + (8 * j + k) → y ≡ pick on (marked (getD map a 0)) (getD map a 0)
       → bitsMarked bits start (8 - k) (8 * j + k) (record { map = map; figures = 0 }) .map ≡ whole → bitsMarked bits start (8 - (k + 1)) (8 * j + (k + 1)) (record { map = set map a y; figures = 0 }) .map ≡ whole
   unfolding bitsMarked
   byte-more j k map a b y on whole h read is-on is-a is-y left =
       let one : 8 - k ≡ suc (8 - (k + 1)) = omega arith in
       let next : 8 * j + (k + 1) ≡ 8 * j + k + 1 = omega arith in
-      let there : on ≡ bitAt bits (8 * j + k) = bit-read-of bits j b (8 * j + k) k on read (omega arith) (omega arith) is-on in
+      let there : on ≡ bitAt bits (8 * j + k) = bit-read-of bits j b (8 * j + k) (k % 8) on read (omega arith) (omega arith) is-on in
       let written : set map a y ≡ bitMarked (bitAt bits (8 * j + k)) (start + (8 * j + k)) (record { map = map; figures = 0 }) .map = rw (is-y, is-a, there) (sym (bit-written (bitAt bits (8 * j + k)) (start + (8 * j + k)) (record { map = map; figures = 0 }))) in
       rw next (bits-map (8 - (k + 1)) (8 * j + k + 1) _ _ written ∙ rw one at left)
 
@@ -141,7 +142,7 @@ module _ (bits : List ℕ) (start : ℕ) where
 -- a bit of the container's, as the definition takes it
 module _ (c : Container) (bits : List ℕ) (start : ℕ) where
   mark-one : (left i : ℕ) (s : Marked ℕ) → start + i < c .count → c .count < 2 ^ 64 → markFrom c bits start (suc left) i s ≡ markFrom c bits start left (i + 1) (bitMarked (bitAt bits i) (start + i) s)
-  unfolding markFrom bitMarked sum need _>>=_
+  unfolding markFrom markBit markSet bitMarked sum need _>>=_
   mark-one left i s h fits = go (bitAt bits i) refl
     where
       go : (t : Bool) → bitAt bits i ≡ t → markFrom c bits start (suc left) i s ≡ markFrom c bits start left (i + 1) (bitMarked (bitAt bits i) (start + i) s)
@@ -156,9 +157,9 @@ module _ (c : Container) (bits : List ℕ) (start : ℕ) where
       rw (suc-add, next) (mark-one (m + left) i s (omega arith) fits ∙ mark-then m left (i + 1) _ (omega arith) fits)
 
   -- the bits of so many blocks, and then those that are left
-  pub marked-then : {f : ℕ → List ℕ} {step : Step} {after : List ℕ} {figures : ℕ} (blocks m : ℕ) (map between : List ℕ) (zeros : ℕ) → m ≤ blocks → m ≤ c .count - start → c .count < 2 ^ 64
+  pub marked-then : {f : ℕ → List ℕ} {ending : Ending} {after : List ℕ} {found : ℕ} (blocks m : ℕ) (map between : List ℕ) (zeros : ℕ) → m ≤ blocks → m ≤ c .count - start → c .count < 2 ^ 64
       → record { map = between; figures = zeros } ≡ bitsMarked bits start m 0 (record { map = map; figures = 0 })
-      → Stepped f (c .count) step between after figures (markFrom c bits start (blocks - m) m (record { map = between; figures = zeros })) → Stepped f (c .count) step map after figures (markFrom c bits start blocks 0 (record { map = map; figures = 0 }))
+      → Stepped f (c .count) ending between after found (markFrom c bits start (blocks - m) m (record { map = between; figures = zeros })) → Stepped f (c .count) ending map after found (markFrom c bits start blocks 0 (record { map = map; figures = 0 }))
   marked-then blocks m map between zeros h inside fits e k =
       record {
         goes = k .goes ∙ ap (run _) whole;

@@ -1,5 +1,3 @@
--- The audit of bitmaps and of the pool, what the code's answers stand for, and runs that log nothing.
+-- The audit of bitmaps and of the pool.
 pub mod Audit
-pub mod Answers
-pub mod Bits
-pub mod Unlogged
+pub mod contracts

@@ -1,41 +1,51 @@
 // The main device's chunks: those of each chunk-info block that the manager lists.
 use crate::Audit;
+use crate::AuditStep;
 use crate::Audited;
 use crate::bitmap;
 use crate::problems;
 use blocks::Address;
 use blocks::Container;
-use blocks::Seen;
+use blocks::Presence;
 use manager::Chunk;
 use pool::PoolPlace;
+use report::Cursor;
+use report::Ending;
 use report::Step;
 ghost use Prim.Native.Nat.{_<_};
-ghost use Rattle.manager.specs.Place.{bytesOf};
-ghost use Rattle.manager.specs.Manager.{chunkInfoCount, chunkInfosAt};
-ghost use Rattle.manager.specs.Chunks.{chunkCount, chunksAt};
-ghost use Rattle.manager.specs.Lists.{records, values};
-ghost use Rattle.audit.specs.Audit.{auditBitmap, auditChunk, auditChunks, auditInfo, auditInfos};
-ghost use Rattle.audit.specs.Answers.{Audits, poolAt, infoEntered, infoRead, auditListed};
+ghost use Rattle.blocks.specs.contracts.Images.{bytes};
+ghost use Rattle.report.specs.contracts.Steps.{Ahead};
+ghost use Rattle.audit.specs.Audit.{auditBitmap, auditChunk, enterInfo, readInfo, auditInfo};
+ghost use Rattle.audit.specs.contracts.Answers.{AuditsAs, AuditsNext, poolAt, chunksLeft, chunksIn, infosLeft, infosIn, deviceIn};
 
 // A chunk that has a bitmap.
 fn audit_bitmap(
     image: &[u8],
     map: &mut [u8],
     container: Container,
-    p: PoolPlace,
-    ch: Chunk,
+    place: PoolPlace,
+    chunk: Chunk,
     audit: Audit,
 ) -> Audited
-    ensures { λ r. ⌜ Audits (now (image .entry)) container r (now (map .entry)) (now (map .exit)) (auditBitmap container (poolAt (now (image .entry)) container p) ch (record { map = now (map .entry); figures = audit })) ⌝ }
+    ensures { λ r. ⌜ AuditsAs image map container audit r (λ f. auditBitmap container (poolAt container place f) chunk) ⌝ }
 {
-    let marked = pool::pool_marked(image, container, p, ch.bitmap);
-    let audited = problems::unless(marked, problems::BITMAP_UNMARKED, ch.bitmap, audit);
-    let step = audited.step;
-    match step {
-        Step::Refused(_) => audited,
-        Step::Done => {
+    let a = chunk.bitmap;
+    let audited = problems::audit_use(
+        image,
+        map,
+        container,
+        place,
+        problems::BITMAP_UNMARKED,
+        problems::BITMAP_IN_USE,
+        a.0,
+        audit,
+    );
+    let ending = audited.ending;
+    match ending {
+        Ending::Refused(_) => audited,
+        Ending::Done => {
             let next = audited.audit;
-            bitmap::enter_bitmap(image, map, container, ch, next)
+            bitmap::read_bitmap(image, map, container, chunk, next)
         }
     }
 }
@@ -45,16 +55,35 @@ fn audit_chunk(
     image: &[u8],
     map: &mut [u8],
     container: Container,
-    p: PoolPlace,
-    ch: Chunk,
+    place: PoolPlace,
+    chunk: Chunk,
     audit: Audit,
 ) -> Audited
-    ensures { λ r. ⌜ Audits (now (image .entry)) container r (now (map .entry)) (now (map .exit)) (auditChunk container (poolAt (now (image .entry)) container p) ch (record { map = now (map .entry); figures = audit })) ⌝ }
+    ensures { λ r. ⌜ AuditsAs image map container audit r (λ f. auditChunk container (poolAt container place f) chunk) ⌝ }
 {
-    if ch.bitmap == 0 {
-        return bitmap::tally(ch, audit, ch.blocks);
+    let a = chunk.bitmap;
+    if a.0 == 0 {
+        return bitmap::tally(chunk, audit, chunk.blocks);
     }
-    audit_bitmap(image, map, container, p, ch, audit)
+    audit_bitmap(image, map, container, place, chunk, audit)
+}
+
+// The chunk at a cursor in a chunk-info block.
+fn audit_next(
+    image: &[u8],
+    map: &mut [u8],
+    container: Container,
+    place: PoolPlace,
+    block: &[u8],
+    at: Cursor,
+    audit: Audit,
+) -> AuditStep
+    requires { ⌜ Ahead at ⌝ }
+    ensures { λ r. ⌜ AuditsNext image map container at audit r (chunksLeft container place block) ⌝ }
+{
+    let chunk = manager::chunks::chunk_at(block, at.next);
+    let audited = audit_chunk(image, map, container, place, chunk, audit);
+    problems::past(audited, at)
 }
 
 // The chunks of a chunk-info block, whose records are there.
@@ -62,24 +91,23 @@ fn audit_chunks(
     image: &[u8],
     map: &mut [u8],
     container: Container,
-    p: PoolPlace,
+    place: PoolPlace,
     block: &[u8],
     audit: Audit,
 ) -> Audited
-    ensures { λ r. ⌜ Audits (now (image .entry)) container r (now (map .entry)) (now (map .exit)) (auditChunks container (poolAt (now (image .entry)) container p) (records (now (block .entry)) (chunkCount (now (block .entry))) chunksAt) (record { map = now (map .entry); figures = audit })) ⌝ }
+    ensures { λ r. ⌜ AuditsAs image map container audit r (chunksIn container place block) ⌝ }
 {
     let n = fields::u32_of(block, manager::chunks::COUNT);
     let mut found = audit;
-    let mut i = 0;
-    while i < n {
-        let ch = manager::chunks::chunk_at(block, i);
-        let audited = audit_chunk(image, map, container, p, ch, found);
+    let mut at = Cursor { next: 0, left: n };
+    while at.left != 0 {
+        let audited = audit_next(image, map, container, place, block, at, found);
         let step = audited.step;
         match step {
-            Step::Refused(_) => return audited,
-            Step::Done => {
+            Step::Refused(r) => return problems::refused(r, found),
+            Step::On(to) => {
                 found = audited.audit;
-                i += 1;
+                at = to;
             }
         }
     }
@@ -91,41 +119,41 @@ fn enter_info(
     image: &[u8],
     map: &mut [u8],
     container: Container,
-    p: PoolPlace,
-    a: u64,
+    place: PoolPlace,
+    address: Address,
     block: &[u8],
     audit: Audit,
 ) -> Audited
-    requires { ⌜ a < container .count ⌝ }
-    ensures { λ r. ⌜ Audits (now (image .entry)) container r (now (map .entry)) (now (map .exit)) (infoEntered container (poolAt (now (image .entry)) container p) a (record { map = now (map .entry); figures = audit }) (now (block .entry))) ⌝ }
+    requires { ⌜ address .0 < container .count ⌝ }
+    ensures { λ r. ⌜ AuditsAs image map container audit r (λ f s. enterInfo container (poolAt container place f) address s (bytes block)) ⌝ }
 {
     let seen = manager::chunks::chunks_there(block);
     match seen {
-        Seen::Refused(r) => problems::refused(r, audit),
-        Seen::There => {
-            block_map::use_block(map, a);
-            audit_chunks(image, map, container, p, block, audit)
+        Presence::Refused(r) => problems::refused(r, audit),
+        Presence::There => {
+            block_map::use_block(map, address.0);
+            audit_chunks(image, map, container, place, block, audit)
         }
     }
 }
 
-// The same, once its problem is logged.
+// A chunk-info block, once its problem is logged.
 fn read_info(
     image: &[u8],
     map: &mut [u8],
     container: Container,
-    p: PoolPlace,
-    a: u64,
+    place: PoolPlace,
+    address: Address,
     audit: Audit,
 ) -> Audited
-    ensures { λ r. ⌜ Audits (now (image .entry)) container r (now (map .entry)) (now (map .exit)) (infoRead container (poolAt (now (image .entry)) container p) a (record { map = now (map .entry); figures = audit })) ⌝ }
+    ensures { λ r. ⌜ AuditsAs image map container audit r (λ f. readInfo container (poolAt container place f) address) ⌝ }
 {
-    let seen = blocks::raw_block(container, Address(a));
+    let seen = blocks::raw_block(container, address);
     match seen {
-        Seen::Refused(r) => problems::refused(r, audit),
-        Seen::There => {
-            let block = blocks::block(image, container.size, a);
-            enter_info(image, map, container, p, a, block, audit)
+        Presence::Refused(r) => problems::refused(r, audit),
+        Presence::There => {
+            let block = blocks::block(image, container.size, address);
+            enter_info(image, map, container, place, address, block, audit)
         }
     }
 }
@@ -135,22 +163,40 @@ fn audit_info(
     image: &[u8],
     map: &mut [u8],
     container: Container,
-    p: PoolPlace,
-    a: u64,
+    place: PoolPlace,
+    address: Address,
     audit: Audit,
 ) -> Audited
-    ensures { λ r. ⌜ Audits (now (image .entry)) container r (now (map .entry)) (now (map .exit)) (auditInfo container (poolAt (now (image .entry)) container p) a (record { map = now (map .entry); figures = audit })) ⌝ }
+    ensures { λ r. ⌜ AuditsAs image map container audit r (λ f. auditInfo container (poolAt container place f) address) ⌝ }
 {
-    let marked = pool::pool_marked(image, container, p, a);
-    let audited = problems::unless(marked, problems::INFO_UNMARKED, a, audit);
-    let step = audited.step;
-    match step {
-        Step::Refused(_) => audited,
-        Step::Done => {
+    let marked = pool::pool_marked(image, container, place, address.0);
+    let audited = problems::unless(marked, problems::INFO_UNMARKED, address.0, audit);
+    let ending = audited.ending;
+    match ending {
+        Ending::Refused(_) => audited,
+        Ending::Done => {
             let next = audited.audit;
-            read_info(image, map, container, p, a, next)
+            read_info(image, map, container, place, address, next)
         }
     }
+}
+
+// The chunk-info block at a cursor in the manager's list.
+fn info_next(
+    image: &[u8],
+    map: &mut [u8],
+    container: Container,
+    place: PoolPlace,
+    at: Cursor,
+    audit: Audit,
+) -> AuditStep
+    requires { ⌜ Ahead at ⌝ }
+    ensures { λ r. ⌜ AuditsNext image map container at audit r (infosLeft container place) ⌝ }
+{
+    let m = place.manager;
+    let a = manager::lists::chunk_info(image, container, m, at.next);
+    let audited = audit_info(image, map, container, place, a, audit);
+    problems::past(audited, at)
 }
 
 // The chunk-info blocks of a list that lies inside the manager.
@@ -158,44 +204,43 @@ fn audit_listed(
     image: &[u8],
     map: &mut [u8],
     container: Container,
-    p: PoolPlace,
+    place: PoolPlace,
     audit: Audit,
 ) -> Audited
-    ensures { λ r. ⌜ Audits (now (image .entry)) container r (now (map .entry)) (now (map .exit)) (auditInfos container (poolAt (now (image .entry)) container p) (values 8 (bytesOf (now (image .entry)) (container .size) (p .manager)) (chunkInfoCount (bytesOf (now (image .entry)) (container .size) (p .manager))) (chunkInfosAt (bytesOf (now (image .entry)) (container .size) (p .manager)))) (record { map = now (map .entry); figures = audit })) ⌝ }
+    ensures { λ r. ⌜ AuditsAs image map container audit r (infosIn container place) ⌝ }
 {
-    let m = p.manager;
+    let m = place.manager;
     let n = manager::place::u32_of(image, container, m, manager::offsets::CHUNK_INFO_COUNT);
     let mut found = audit;
-    let mut k = 0;
-    while k < n {
-        let a = manager::lists::chunk_info(image, container, m, k);
-        let audited = audit_info(image, map, container, p, a, found);
+    let mut at = Cursor { next: 0, left: n };
+    while at.left != 0 {
+        let audited = info_next(image, map, container, place, at, found);
         let step = audited.step;
         match step {
-            Step::Refused(_) => return audited,
-            Step::Done => {
+            Step::Refused(r) => return problems::refused(r, found),
+            Step::On(to) => {
                 found = audited.audit;
-                k += 1;
+                at = to;
             }
         }
     }
     problems::done(found)
 }
 
-// All chunk-info blocks: their list is read whole before the first of them.
-pub fn audit_infos(
+// The main device: its list is read whole before the first of its blocks.
+pub fn audit_device(
     image: &[u8],
     map: &mut [u8],
     container: Container,
-    p: PoolPlace,
+    place: PoolPlace,
     audit: Audit,
 ) -> Audited
-    ensures { λ r. ⌜ Audits (now (image .entry)) container r (now (map .entry)) (now (map .exit)) (auditListed container (poolAt (now (image .entry)) container p) (bytesOf (now (image .entry)) (container .size) (p .manager)) (record { map = now (map .entry); figures = audit })) ⌝ }
+    ensures { λ r. ⌜ AuditsAs image map container audit r (deviceIn container place) ⌝ }
 {
-    let m = p.manager;
+    let m = place.manager;
     let seen = manager::lists::chunk_infos(image, container, m);
     match seen {
-        Seen::Refused(r) => problems::refused(r, audit),
-        Seen::There => audit_listed(image, map, container, p, audit),
+        Presence::Refused(r) => problems::refused(r, audit),
+        Presence::There => audit_listed(image, map, container, place, audit),
     }
 }

@@ -1,10 +1,11 @@
 // The audit of the bitmaps, and of what the pool is used for.
+use report::Ending;
 use report::ProblemLog;
 use report::Step;
 
 mod bitmap;
 pub mod chunks;
-mod problems;
+pub mod problems;
 pub mod queued;
 pub mod unlogged;
 mod whole;
@@ -18,6 +19,12 @@ pub struct Audit {
 
 // What was counted after a step; where the step was refused, it says nothing.
 pub struct Audited {
+    pub ending: Ending,
+    pub audit: Audit,
+}
+
+// What was counted after a step along a list, and where it came to.
+pub struct AuditStep {
     pub step: Step,
     pub audit: Audit,
 }

@@ -1,15 +1,20 @@
-// The problems that the audit meets.
+// What the audit counts, and the problems that it meets.
 use crate::Audit;
+use crate::AuditStep;
 use crate::Audited;
+use blocks::Container;
 use blocks::Refusal;
+use pool::PoolPlace;
+use report::Cursor;
+use report::Ending;
 use report::Problem;
-use report::Step;
+use report::ProblemLog;
 use report::logs;
-ghost use mathlib.Core.List.{List};
+use report::steps;
 ghost use mathlib.Core.Path.{_≡_};
-ghost use Prim.Native.Nat.{ℕ};
-ghost use Rattle.audit.specs.Audit.{unless as unlessOf};
-ghost use Rattle.audit.specs.Answers.{Stepped};
+ghost use Rattle.report.specs.contracts.Steps.{pastOf};
+ghost use Rattle.audit.specs.Audit.{noAudit, withProblems, unless as unlessOf, auditUse};
+ghost use Rattle.audit.specs.contracts.Answers.{Anywhere, AuditsStill, poolAt};
 
 pub(crate) const INFO_UNMARKED: u8 = 1;
 
@@ -21,35 +26,97 @@ pub(crate) const QUEUED_UNMARKED: u8 = 4;
 
 pub(crate) const QUEUED_IN_USE: u8 = 5;
 
-pub(crate) fn refused(r: Refusal, audit: Audit) -> Audited
-    ensures { λ a. ⌜ a ≡ record { step = Step.Refused r; audit = audit } ⌝ }
+pub fn nothing_audited() -> Audit
+    ensures { λ r. ⌜ r ≡ noAudit ⌝ }
 {
-    let step = Step::Refused(r);
-    Audited { step, audit }
+    let problems = logs::no_problems();
+    Audit {
+        problems,
+        free: 0,
+        wrong: 0,
+    }
+}
+
+fn with_problems(problems: ProblemLog, audit: Audit) -> Audit
+    ensures { λ r. ⌜ r ≡ withProblems problems audit ⌝ }
+{
+    Audit {
+        problems,
+        free: audit.free,
+        wrong: audit.wrong,
+    }
+}
+
+pub(crate) fn refused(why: Refusal, audit: Audit) -> Audited
+    ensures { λ a. ⌜ a ≡ record { ending = Ending.Refused why; audit = audit } ⌝ }
+{
+    let ending = Ending::Refused(why);
+    Audited { ending, audit }
 }
 
 pub(crate) fn done(audit: Audit) -> Audited
-    ensures { λ a. ⌜ a ≡ record { step = Step.Done; audit = audit } ⌝ }
+    ensures { λ a. ⌜ a ≡ record { ending = Ending.Done; audit = audit } ⌝ }
 {
-    let step = Step::Done;
-    Audited { step, audit }
+    let ending = Ending::Done;
+    Audited { ending, audit }
 }
 
-// A problem with block a, unless the test holds. The map is left as it is.
-pub(crate) fn unless(ok: bool, kind: u8, a: u64, audit: Audit) -> Audited
-    ensures { λ r. ⌜ ((f : ℕ → List ℕ) (count : ℕ) (map : List ℕ) → Stepped f count (r .step) map map (r .audit) (unlessOf ok kind a (record { map = map; figures = audit }))) ⌝ }
+// Past the one at a cursor, once it was audited.
+pub(crate) fn past(audited: Audited, at: Cursor) -> AuditStep
+    ensures { λ r. ⌜ r ≡ record { step = pastOf (audited .ending) at; audit = audited .audit } ⌝ }
+{
+    let ending = audited.ending;
+    let audit = audited.audit;
+    let step = steps::past(ending, at);
+    AuditStep { step, audit }
+}
+
+// A problem with a block, unless the test holds. The map is left as it is.
+pub(crate) fn unless(ok: bool, kind: u8, number: u64, audit: Audit) -> Audited
+    ensures { λ r. ⌜ Anywhere audit r (unlessOf ok kind number) ⌝ }
 {
     if ok {
         return done(audit);
     }
     let before = audit.problems;
-    let logged = logs::add_problem(before, Problem { kind, block: a });
-    let step = logged.step;
+    let logged = logs::add_problem(
+        before,
+        Problem {
+            kind,
+            block: number,
+        },
+    );
+    let ending = logged.ending;
     let problems = logged.log;
-    let next = Audit {
-        problems,
-        free: audit.free,
-        wrong: audit.wrong,
-    };
-    Audited { step, audit: next }
+    let next = with_problems(problems, audit);
+    Audited {
+        ending,
+        audit: next,
+    }
+}
+
+// The mark of the block, and then whether it is used already, each a problem of its own.
+pub(crate) fn audit_use(
+    image: &[u8],
+    map: &[u8],
+    container: Container,
+    place: PoolPlace,
+    unmarked: u8,
+    in_use: u8,
+    block: u64,
+    audit: Audit,
+) -> Audited
+    ensures { λ r. ⌜ AuditsStill image map container audit r (λ f. auditUse container (poolAt container place f) unmarked in_use block) ⌝ }
+{
+    let marked = pool::pool_marked(image, container, place, block);
+    let audited = unless(marked, unmarked, block, audit);
+    let ending = audited.ending;
+    match ending {
+        Ending::Refused(_) => audited,
+        Ending::Done => {
+            let next = audited.audit;
+            let used = block_map::used_at(map, container, block);
+            unless(!used, in_use, block, next)
+        }
+    }
 }

@@ -1,61 +1,70 @@
 // The blocks in the pool queue: each must be marked, and used by nothing else.
 use crate::Audit;
+use crate::AuditStep;
 use crate::Audited;
 use crate::problems;
 use blocks::Container;
 use blocks::Refusal;
-use nodes::Places;
+use nodes::EntryPlace;
 use pool::PoolPlace;
-use queue::Ran;
 use queue::Run;
+use queue::RunAnswer;
+use report::Cursor;
+use report::Ending;
 use report::Step;
-ghost use mathlib.Core.List.{List};
 ghost use mathlib.Core.Path.{_≡_};
-ghost use Prim.Native.Nat.{ℕ, _+_, _<_, _≤_};
+ghost use Prim.Native.Nat.{_+_, _<_, _≤_};
 ghost use lib.Dec.{leb};
-ghost use Rattle.queue.specs.Answers.{placesIn};
-ghost use Rattle.audit.specs.Audit.{auditQueuedFrom, auditQueued};
-ghost use Rattle.audit.specs.Answers.{Stepped, Audits, poolAt, queuedEntered, auditQueuedBlock};
+ghost use Rattle.report.specs.contracts.Steps.{Ahead};
+ghost use Rattle.audit.specs.Audit.{auditQueuedBlock};
+ghost use Rattle.audit.specs.contracts.Answers.{AuditsAs, AuditsNext, poolAt, queuedLeft, queuedIn, runBlocks};
 
-// A queued block, once its first problem is logged.
-fn enter_queued(map: &mut [u8], container: Container, a: u64, audit: Audit) -> Audited
-    requires { ⌜ a < container .count ⌝ }
-    ensures { λ r. ⌜ ((f : ℕ → List ℕ) → Stepped f (container .count) (r .step) (now (map .entry)) (now (map .exit)) (r .audit) (queuedEntered container a (record { map = now (map .entry); figures = audit }))) ⌝ }
+// A queued block: unmarked, and then in use; it is used from here on.
+fn audit_block(
+    image: &[u8],
+    map: &mut [u8],
+    container: Container,
+    place: PoolPlace,
+    block: u64,
+    audit: Audit,
+) -> Audited
+    requires { ⌜ block < container .count ⌝ }
+    ensures { λ r. ⌜ AuditsAs image map container audit r (λ f. auditQueuedBlock container (poolAt container place f) block) ⌝ }
 {
-    let used = block_map::used_at(map, container, a);
-    let audited = problems::unless(!used, problems::QUEUED_IN_USE, a, audit);
-    let step = audited.step;
-    match step {
-        Step::Refused(_) => audited,
-        Step::Done => {
-            block_map::use_block(map, a);
+    let audited = problems::audit_use(
+        image,
+        map,
+        container,
+        place,
+        problems::QUEUED_UNMARKED,
+        problems::QUEUED_IN_USE,
+        block,
+        audit,
+    );
+    let ending = audited.ending;
+    match ending {
+        Ending::Refused(_) => audited,
+        Ending::Done => {
+            block_map::use_block(map, block);
             audited
         }
     }
 }
 
-// A queued block: unmarked, and then in use.
-fn audit_queued_block(
+// The queued block at a cursor.
+fn queued_next(
     image: &[u8],
     map: &mut [u8],
     container: Container,
-    p: PoolPlace,
-    a: u64,
+    place: PoolPlace,
+    at: Cursor,
     audit: Audit,
-) -> Audited
-    requires { ⌜ a < container .count ⌝ }
-    ensures { λ r. ⌜ Audits (now (image .entry)) container r (now (map .entry)) (now (map .exit)) (auditQueuedBlock container (poolAt (now (image .entry)) container p) a (record { map = now (map .entry); figures = audit })) ⌝ }
+) -> AuditStep
+    requires { ⌜ Ahead at × (at .next < container .count) ⌝ }
+    ensures { λ r. ⌜ AuditsNext image map container at audit r (queuedLeft container place) ⌝ }
 {
-    let marked = pool::pool_marked(image, container, p, a);
-    let audited = problems::unless(marked, problems::QUEUED_UNMARKED, a, audit);
-    let step = audited.step;
-    match step {
-        Step::Refused(_) => audited,
-        Step::Done => {
-            let next = audited.audit;
-            enter_queued(map, container, a, next)
-        }
-    }
+    let audited = audit_block(image, map, container, place, at.next, audit);
+    problems::past(audited, at)
 }
 
 // The blocks of a run that the container has.
@@ -63,23 +72,26 @@ fn audit_run(
     image: &[u8],
     map: &mut [u8],
     container: Container,
-    p: PoolPlace,
+    place: PoolPlace,
     run: Run,
     audit: Audit,
 ) -> Audited
     requires { ⌜ run .start + run .count ≤ container .count ⌝ }
-    ensures { λ r. ⌜ Audits (now (image .entry)) container r (now (map .entry)) (now (map .exit)) (auditQueuedFrom container (poolAt (now (image .entry)) container p) (run .count) (run .start) (record { map = now (map .entry); figures = audit })) ⌝ }
+    ensures { λ r. ⌜ AuditsAs image map container audit r (queuedLeft container place (runBlocks run)) ⌝ }
 {
     let mut found = audit;
-    let mut i = 0;
-    while i < run.count {
-        let audited = audit_queued_block(image, map, container, p, run.start + i, found);
+    let mut at = Cursor {
+        next: run.start,
+        left: run.count,
+    };
+    while at.left != 0 {
+        let audited = queued_next(image, map, container, place, at, found);
         let step = audited.step;
         match step {
-            Step::Refused(_) => return audited,
-            Step::Done => {
+            Step::Refused(r) => return problems::refused(r, found),
+            Step::On(to) => {
                 found = audited.audit;
-                i += 1;
+                at = to;
             }
         }
     }
@@ -90,35 +102,29 @@ fn audit_run(
 pub(crate) fn has_run(container: Container, run: Run) -> bool
     ensures { λ r. ⌜ r ≡ leb (run .start + run .count) (container .count) ⌝ }
 {
-    if container.count < run.start {
-        return false;
-    }
-    if container.count - run.start < run.count {
-        return false;
-    }
-    true
+    fields::fits(container.count, run.start, run.count)
 }
 
-// The blocks that an entry of the pool queue names, the entry by its places in its node.
+// The blocks that an entry of the pool queue names, the entry by its place in its node.
 pub fn audit_queued(
     image: &[u8],
     map: &mut [u8],
     node: &[u8],
     container: Container,
-    p: PoolPlace,
-    e: Places,
+    place: PoolPlace,
+    entry: EntryPlace,
     audit: Audit,
 ) -> Audited
-    ensures { λ r. ⌜ Audits (now (image .entry)) container r (now (map .entry)) (now (map .exit)) (auditQueued container (poolAt (now (image .entry)) container p) (record { map = now (map .entry); figures = audit }) (placesIn (now (node .entry)) e)) ⌝ }
+    ensures { λ r. ⌜ AuditsAs image map container audit r (queuedIn container place node entry) ⌝ }
 {
-    let ran = queue::run_of(node, e);
-    match ran {
-        Ran::Refused(r) => problems::refused(r, audit),
-        Ran::As(run) => {
+    let named = queue::run_of(node, entry);
+    match named {
+        RunAnswer::Refused(r) => problems::refused(r, audit),
+        RunAnswer::Given(run) => {
             if !has_run(container, run) {
                 return problems::refused(Refusal::Overflow, audit);
             }
-            audit_run(image, map, container, p, run, audit)
+            audit_run(image, map, container, place, run, audit)
         }
     }
 }

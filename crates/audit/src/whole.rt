@@ -1,12 +1,14 @@
 // The whole bytes of a chunk's bitmap whose blocks the container and the map have: none of their bits is refused.
 use blocks::Container;
-use pool::BYTE_BITS;
+use fields::BYTE_BITS;
+use fields::least;
 ghost use mathlib.Core.Path.{_≡_};
-ghost use Prim.Native.Nat.{_+_, _-_, _*_, _≤_, min};
+ghost use Prim.Native.Nat.{_+_, _-_, _*_, _≤_};
 ghost use lib.ListN.{length, getD};
 ghost use Rattle.fields.specs.Choice.{pick};
+ghost use Rattle.blocks.specs.contracts.Images.{bytes};
 ghost use Rattle.block_map.specs.BlockMap.{marked};
-ghost use Rattle.audit.specs.Bits.{bitsMarked, onesIn, wholeBytes, InMap};
+ghost use Rattle.audit.specs.contracts.Bits.{bitsOn, onesIn, wholeBytes, InMap};
 
 // A byte whose bits are all 1.
 const ONES: u8 = 0xff;
@@ -19,12 +21,6 @@ const EVEN_PAIRS: u64 = 0x33;
 
 // Its low four bits.
 const LOW_FOUR: u64 = 0x0f;
-
-fn least(a: u64, b: u64) -> u64
-    ensures { λ r. ⌜ r ≡ min a b ⌝ }
-{
-    if a < b { a } else { b }
-}
 
 // How many blocks there are from start to an end.
 fn from(start: u64, end: u64) -> u64
@@ -40,67 +36,71 @@ pub(crate) fn whole_bytes(
     start: u64,
     blocks: u64,
 ) -> u64
-    ensures { λ r. ⌜ r ≡ wholeBytes (container .count) (now (map .entry)) (now (bits .entry)) start blocks ⌝ }
+    ensures { λ r. ⌜ r ≡ wholeBytes (container .count) (bytes map) (bytes bits) start blocks ⌝ }
 {
     let inside = least(from(start, container.count), from(start, map.len() as u64));
     least(least(blocks, inside) / BYTE_BITS, bits.len() as u64)
 }
 
 // A block's byte, marked where its bit is set.
-fn with_bit(x: u8, set: bool) -> u8
-    ensures { λ r. ⌜ r ≡ pick set (marked x) x ⌝ }
+fn with_bit(byte: u8, set: bool) -> u8
+    ensures { λ r. ⌜ r ≡ pick set (marked byte) byte ⌝ }
 {
-    if set { block_map::with_mark(x) } else { x }
+    if set {
+        block_map::with_mark(byte)
+    } else {
+        byte
+    }
 }
 
 // How many bits of a byte are set: neighbours are added, first single bits, then pairs, then fours.
-fn ones(b: u8) -> u64
-    ensures { λ r. ⌜ r ≡ onesIn 8 b ⌝ }
+fn ones(byte: u8) -> u64
+    ensures { λ r. ⌜ r ≡ onesIn 8 byte ⌝ }
 {
-    let x = b as u64;
+    let x = byte as u64;
     let pairs = x - (x >> 1 & EVEN_BITS);
     let fours = (pairs & EVEN_PAIRS) + (pairs >> 2 & EVEN_PAIRS);
     (fours + (fours >> 4)) & LOW_FOUR
 }
 
-// The eight blocks of byte j, which is b, with no branch on a bit.
-fn mark_eight(map: &mut [u8], bits: &[u8], start: u64, j: u64, b: u8)
-    requires { ⌜ (start + 8 * j + 8 ≤ length (now map)) × (b ≡ getD (now bits) j 0) ⌝ }
-    ensures { λ r. ⌜ now (map .exit) ≡ bitsMarked (now (bits .entry)) start 8 (8 * j) (record { map = now (map .entry); figures = 0 }) .map ⌝ }
+// The eight blocks of the byte at a place, with no branch on a bit.
+fn mark_eight(map: &mut [u8], bits: &[u8], start: u64, at: u64, byte: u8)
+    requires { ⌜ (start + 8 * at + 8 ≤ length (now map)) × (byte ≡ getD (now bits) at 0) ⌝ }
+    ensures { λ r. ⌜ now (map .exit) ≡ bitsOn bits start 8 (8 * at) map 0 .map ⌝ }
 {
-    let first = start + BYTE_BITS * j;
+    let first = start + BYTE_BITS * at;
     for k in 0..BYTE_BITS {
         let a = (first + k) as usize;
-        map[a] = with_bit(map[a], pool::bit_of(b, k));
+        map[a] = with_bit(map[a], fields::bit_of(byte, k));
     }
 }
 
-// The eight blocks of byte j; answers how many of its bits are 0, after zeros.
+// The eight blocks of a byte of the bitmap; answers how many of its bits are 0, after zeros.
 // A byte of ones is most of what isn't 0, and is marked as one word where the compiler sees its value.
-fn mark_byte(map: &mut [u8], bits: &[u8], start: u64, j: u64, zeros: u64) -> u64
-    requires { ⌜ InMap (now map) (now bits) start j zeros ⌝ }
-    ensures { λ r. ⌜ record { map = now (map .exit); figures = r } ≡ bitsMarked (now (bits .entry)) start 8 (8 * j) (record { map = now (map .entry); figures = zeros }) ⌝ }
+fn mark_byte(map: &mut [u8], bits: &[u8], start: u64, index: u64, zeros: u64) -> u64
+    requires { ⌜ InMap (now map) (now bits) start index zeros ⌝ }
+    ensures { λ r. ⌜ record { map = now (map .exit); figures = r } ≡ bitsOn bits start 8 (8 * index) map zeros ⌝ }
 {
-    let at = j as usize;
+    let at = index as usize;
     let b = bits[at];
     if b == ONES {
-        mark_eight(map, bits, start, j, ONES);
+        mark_eight(map, bits, start, index, ONES);
         return zeros;
     }
     // Counted first: two ways that begin alike have their first block read before the test, and neither is one word then.
     let after = zeros + (BYTE_BITS - ones(b));
-    mark_eight(map, bits, start, j, b);
+    mark_eight(map, bits, start, index, b);
     after
 }
 
-// The first n bytes; answers how many bits were 0. A byte 0 touches nothing: a page of the map never written costs no memory.
-pub(crate) fn mark_bytes(map: &mut [u8], bits: &[u8], start: u64, n: u64) -> u64
-    requires { ⌜ (8 * n ≤ length (now map) - start) × (n ≤ length (now bits)) ⌝ }
-    ensures { λ r. ⌜ record { map = now (map .exit); figures = r } ≡ bitsMarked (now (bits .entry)) start (8 * n) 0 (record { map = now (map .entry); figures = 0 }) ⌝ }
+// The first bytes, so many as counted; answers how many bits were 0. A byte 0 touches nothing: a page of the map never written costs no memory.
+pub(crate) fn mark_bytes(map: &mut [u8], bits: &[u8], start: u64, count: u64) -> u64
+    requires { ⌜ (8 * count ≤ length (now map) - start) × (count ≤ length (now bits)) ⌝ }
+    ensures { λ r. ⌜ record { map = now (map .exit); figures = r } ≡ bitsOn bits start (8 * count) 0 map 0 ⌝ }
 {
     let mut zeros = 0;
     let mut j = 0;
-    while j < n {
+    while j < count {
         let at = j as usize;
         if bits[at] == 0 {
             zeros += BYTE_BITS;

@@ -11,7 +11,7 @@ use lib.ListN.{length, getD, take, drop, replicate, length-take, length-drop, le
 use lib.Seq.{drop-cons, drop-length, take-at, drop-at, drop-drop}
 use borrow.Author.Tests.{ne-eqb}
 use Rattle.block_map.specs.BlockMap.{cleared}
-use Rattle.block_map.specs.Rows.{greatestIn, itself, allZero}
+use Rattle.block_map.specs.contracts.Rows.{greatestIn, itself, allZero}
 
 module _ (f : ℕ → ℕ) where
   -- one byte more

@@ -1,57 +1,57 @@
 // The block map: a byte for each block, bits 0 to 3 its owner, bit 4 marked, bit 5 used in the pool.
 use blocks::Container;
 ghost use mathlib.Core.Path.{_≡_};
-ghost use Prim.Native.Nat.{_%_, _≤_, max};
+ghost use Prim.Native.Nat.{_%_, min, max};
 ghost use lib.ListN.{length, getD, set, replicate};
 ghost use Rattle.block_map.specs.BlockMap.{ownerOf, isMarked, isUsed, marked, used, ownedBy, update, usedAt, cleared};
-ghost use Rattle.block_map.specs.Rows.{greatestIn, itself, allZero};
+ghost use Rattle.block_map.specs.contracts.Rows.{greatestIn, itself, allZero};
 
 // How many bytes are looked at together.
 const ROW: usize = 256;
 
-pub fn owner(x: u8) -> u8
-    ensures { λ r. ⌜ r ≡ ownerOf x ⌝ }
+pub fn owner(byte: u8) -> u8
+    ensures { λ r. ⌜ r ≡ ownerOf byte ⌝ }
 {
-    x & 0x0f
+    byte & 0x0f
 }
 
-pub fn is_marked(x: u8) -> bool
-    ensures { λ r. ⌜ r ≡ isMarked x ⌝ }
+pub fn is_marked(byte: u8) -> bool
+    ensures { λ r. ⌜ r ≡ isMarked byte ⌝ }
 {
-    x >> 4 & 1 == 1
+    byte >> 4 & 1 == 1
 }
 
-pub fn is_used(x: u8) -> bool
-    ensures { λ r. ⌜ r ≡ isUsed x ⌝ }
+pub fn is_used(byte: u8) -> bool
+    ensures { λ r. ⌜ r ≡ isUsed byte ⌝ }
 {
-    x >> 5 & 1 == 1
+    byte >> 5 & 1 == 1
 }
 
-pub fn with_mark(x: u8) -> u8
-    ensures { λ r. ⌜ r ≡ marked x ⌝ }
+pub fn with_mark(byte: u8) -> u8
+    ensures { λ r. ⌜ r ≡ marked byte ⌝ }
 {
-    x | 0x10
+    byte | 0x10
 }
 
-pub fn with_use(x: u8) -> u8
-    ensures { λ r. ⌜ r ≡ used x ⌝ }
+fn with_use(byte: u8) -> u8
+    ensures { λ r. ⌜ r ≡ used byte ⌝ }
 {
-    x | 0x20
+    byte | 0x20
 }
 
 // A kind is below 16; of any other number the low four bits are taken.
-pub fn with_owner(x: u8, kind: u8) -> u8
-    ensures { λ r. ⌜ r ≡ ownedBy (kind % 16) x ⌝ }
+fn with_owner(byte: u8, kind: u8) -> u8
+    ensures { λ r. ⌜ r ≡ ownedBy (kind % 16) byte ⌝ }
 {
-    (x & 0xf0) | (kind & 0x0f)
+    (byte & 0xf0) | (kind & 0x0f)
 }
 
-// The byte of block a; past the map's end, 0.
-pub fn cell(map: &[u8], a: u64) -> u8
-    ensures { λ r. ⌜ r ≡ getD (now (map .entry)) a 0 ⌝ }
+// The byte of a block; past the map's end, 0.
+pub fn cell(map: &[u8], block: u64) -> u8
+    ensures { λ r. ⌜ r ≡ getD (now (map .entry)) block 0 ⌝ }
 {
-    if a < map.len() as u64 {
-        let i = a as usize;
+    if block < map.len() as u64 {
+        let i = block as usize;
         map[i]
     } else {
         0
@@ -59,51 +59,51 @@ pub fn cell(map: &[u8], a: u64) -> u8
 }
 
 // Past the map's end nothing changes.
-fn put(map: &mut [u8], a: u64, x: u8)
-    ensures { λ r. ⌜ now (map .exit) ≡ set (now (map .entry)) a x ⌝ }
+fn put(map: &mut [u8], block: u64, byte: u8)
+    ensures { λ r. ⌜ now (map .exit) ≡ set (now (map .entry)) block byte ⌝ }
 {
-    if a < map.len() as u64 {
-        let at = a as usize;
-        map[at] = x;
+    if block < map.len() as u64 {
+        let at = block as usize;
+        map[at] = byte;
     }
 }
 
-pub fn mark_block(map: &mut [u8], a: u64)
-    ensures { λ r. ⌜ now (map .exit) ≡ update marked a (now (map .entry)) ⌝ }
+pub fn mark_block(map: &mut [u8], block: u64)
+    ensures { λ r. ⌜ now (map .exit) ≡ update marked block (now (map .entry)) ⌝ }
 {
-    let x = cell(map, a);
-    put(map, a, with_mark(x));
+    let x = cell(map, block);
+    put(map, block, with_mark(x));
 }
 
-pub fn use_block(map: &mut [u8], a: u64)
-    ensures { λ r. ⌜ now (map .exit) ≡ update used a (now (map .entry)) ⌝ }
+pub fn use_block(map: &mut [u8], block: u64)
+    ensures { λ r. ⌜ now (map .exit) ≡ update used block (now (map .entry)) ⌝ }
 {
-    let x = cell(map, a);
-    put(map, a, with_use(x));
+    let x = cell(map, block);
+    put(map, block, with_use(x));
 }
 
-pub fn own_block(map: &mut [u8], a: u64, kind: u8)
-    ensures { λ r. ⌜ now (map .exit) ≡ update (ownedBy (kind % 16)) a (now (map .entry)) ⌝ }
+pub fn own_block(map: &mut [u8], block: u64, kind: u8)
+    ensures { λ r. ⌜ now (map .exit) ≡ update (ownedBy (kind % 16)) block (now (map .entry)) ⌝ }
 {
-    let x = cell(map, a);
-    put(map, a, with_owner(x, kind));
+    let x = cell(map, block);
+    put(map, block, with_owner(x, kind));
 }
 
 // Bytes past the block count say nothing.
-pub fn used_at(map: &[u8], c: Container, a: u64) -> bool
-    ensures { λ r. ⌜ r ≡ usedAt c (now (map .entry)) a ⌝ }
+pub fn used_at(map: &[u8], container: Container, block: u64) -> bool
+    ensures { λ r. ⌜ r ≡ usedAt container (now (map .entry)) block ⌝ }
 {
-    if a < c.count {
-        is_used(cell(map, a))
+    if block < container.count {
+        is_used(cell(map, block))
     } else {
         false
     }
 }
 
-pub fn greater(g: u8, x: u8) -> u8
-    ensures { λ r. ⌜ r ≡ max g x ⌝ }
+pub fn greater(greatest: u8, byte: u8) -> u8
+    ensures { λ r. ⌜ r ≡ max greatest byte ⌝ }
 {
-    if g < x { x } else { g }
+    if greatest < byte { byte } else { greatest }
 }
 
 // With no other test than the maximum's, so that many bytes are compared at once.
@@ -135,12 +135,11 @@ fn clear_row(row: &mut [u8])
     }
 }
 
-// Zeroes each block's byte.
+// Zeroes each block's byte, as far as the map goes.
 pub fn clear(map: &mut [u8], count: u64)
-    requires { ⌜ count ≤ length (now map) ⌝ }
-    ensures { λ r. ⌜ now (map .exit) ≡ cleared count (now (map .entry)) ⌝ }
+    ensures { λ r. ⌜ now (map .exit) ≡ cleared (min count (length (now (map .entry)))) (now (map .entry)) ⌝ }
 {
-    let end = count as usize;
+    let end = fields::least(count, map.len() as u64) as usize;
     let mut at = 0;
     while ROW <= end - at {
         let next = at + ROW;

@@ -173,3 +173,10 @@ module _ (f : ℕ → List ℕ) (c : Container) (a : Address) where
     pub object-bad : verifies (f (a .0)) ≡ false → run f (readObject c a) ≡ refused BadChecksum
     unfolding run need _>>=_
     object-bad e = object-read ∙ rw e refl
+
+-- one pass after two, or after the first of them
+pub bind-assoc : {A B C : Type 0} (p : Reads A) (q : A → Reads B) (k : B → Reads C) → p >>= q >>= k ≡ p >>= (λ a. q a >>= k)
+unfolding _>>=_
+bind-assoc (done a) q k = refl
+bind-assoc (refuse r) q k = refl
+bind-assoc (read n g) q k = λ i. read n (λ b. bind-assoc (g b) q k i)

@@ -6,7 +6,8 @@ ghost use Prim.Native.Nat.{ℕ};
 ghost use Rattle.blocks.specs.Refusals.{numberOf};
 ghost use Rattle.blocks.specs.Reads.{run};
 ghost use Rattle.blocks.specs.Blocks.{blockOf, readRaw, readObject, sum};
-ghost use Rattle.blocks.specs.Answers.{seenAs, addedAs};
+ghost use Rattle.blocks.specs.contracts.Images.{bytes};
+ghost use Rattle.blocks.specs.contracts.Answers.{thereAs, numberAs, Always, Sees, SeesIn};
 
 // Why a pass gives no report, in checking order: specs/Refusals.antt has the number of each.
 pub enum Refusal {
@@ -47,10 +48,10 @@ pub struct Container {
 }
 
 // The paper's number of a refusal.
-pub fn number_of(r: Refusal) -> u8
-    ensures { λ n. ⌜ n ≡ numberOf r ⌝ }
+pub fn number_of(why: Refusal) -> u8
+    ensures { λ n. ⌜ n ≡ numberOf why ⌝ }
 {
-    match r {
+    match why {
         Refusal::ShortImage => 1,
         Refusal::NoMagic => 2,
         Refusal::BlockSize => 3,
@@ -83,33 +84,40 @@ pub struct Reader<'a> {
 }
 
 // Whether a block may be read: what is read is `block`.
-pub enum Seen {
+pub enum Presence {
     There,
+    Refused(Refusal),
+}
+
+// The address of a block that may be read, or why there is none.
+pub enum AddressAnswer {
+    Given(Address),
     Refused(Refusal),
 }
 
 // Numbers below this have a product below 2^64.
 const HALF_WIDE: u64 = 1 << 32;
 
-// Block n of an image for any number and size; shorter, or empty, where the image ends before.
-fn far_block_in(image: &[u8], size: u64, n: u64) -> &[u8]
-    ensures { λ r. ⌜ now r ≡ blockOf (now (image .entry)) size n ⌝ }
+// A block of an image for any number and size; shorter, or empty, where the image ends before.
+fn far_block_in(image: &[u8], size: u64, block: u64) -> &[u8]
+    ensures { λ r. ⌜ now r ≡ blockOf (bytes image) size block ⌝ }
 {
     let len = image.len();
     if size == 0 {
         return fields::part_of(image, len, 0);
     }
-    if len as u64 / size < n {
+    if len as u64 / size < block {
         return fields::part_of(image, len, 0);
     }
-    let start = n * size;
+    let start = block * size;
     fields::part_of(image, start as usize, size as usize)
 }
 
-// The same; the division is for numbers that no disk has.
-fn block_in(image: &[u8], size: u64, n: u64) -> &[u8]
-    ensures { λ r. ⌜ now r ≡ blockOf (now (image .entry)) size n ⌝ }
+// The block at an address; the division is for numbers that no disk has.
+fn block_in(image: &[u8], size: u64, address: Address) -> &[u8]
+    ensures { λ r. ⌜ now r ≡ blockOf (bytes image) size (address .0) ⌝ }
 {
+    let n = address.0;
     if HALF_WIDE <= size {
         return far_block_in(image, size, n);
     }
@@ -121,21 +129,21 @@ fn block_in(image: &[u8], size: u64, n: u64) -> &[u8]
 }
 
 // An object that must verify, in an image whose blocks have a size.
-fn object_in(image: &[u8], size: u64, container: Container, a: Address) -> Seen
-    ensures { λ r. ⌜ seenAs (blockOf (now (image .entry)) size (a .0)) r ≡ run (blockOf (now (image .entry)) size) (readObject container a) ⌝ }
+fn object_in(image: &[u8], size: u64, container: Container, address: Address) -> Presence
+    ensures { λ r. ⌜ SeesIn (bytes image) size address r (readObject container address) ⌝ }
 {
-    let n = a.0;
+    let n = address.0;
     if n == 0 {
-        return Seen::Refused(Refusal::PastContainer);
+        return Presence::Refused(Refusal::PastContainer);
     }
     if container.count <= n {
-        return Seen::Refused(Refusal::PastContainer);
+        return Presence::Refused(Refusal::PastContainer);
     }
-    let object = block_in(image, size, n);
+    let object = block_in(image, size, address);
     if fletcher::verify(object) {
-        Seen::There
+        Presence::There
     } else {
-        Seen::Refused(Refusal::BadChecksum)
+        Presence::Refused(Refusal::BadChecksum)
     }
 }
 
@@ -146,56 +154,57 @@ impl<'a> Reader<'a> {
         Reader { image, size }
     }
 
-    pub fn block(self, n: u64) -> &'a [u8]
-        ensures { λ b. ⌜ now b ≡ blockOf (now (self .entry .image)) (self .entry .size) n ⌝ }
+    pub fn block(self, address: Address) -> &'a [u8]
+        ensures { λ b. ⌜ now b ≡ blockOf (now (self .entry .image)) (self .entry .size) (address .0) ⌝ }
     {
-        block_in(self.image, self.size, n)
+        block_in(self.image, self.size, address)
     }
 
-    pub fn object(self, container: Container, a: Address) -> Seen
-        ensures { λ s. ⌜ seenAs (blockOf (now (self .entry .image)) (self .entry .size) (a .0)) s ≡ run (blockOf (now (self .entry .image)) (self .entry .size)) (readObject container a) ⌝ }
+    pub fn object(self, container: Container, address: Address) -> Presence
+        ensures { λ s. ⌜ SeesIn (now (self .entry .image)) (self .entry .size) address s (readObject container address) ⌝ }
     {
-        object_in(self.image, self.size, container, a)
+        object_in(self.image, self.size, container, address)
     }
 }
 
-// Block n of an image, as a reader gives it.
-pub fn block(image: &[u8], size: u64, n: u64) -> &[u8]
-    ensures { λ r. ⌜ now r ≡ blockOf (now (image .entry)) size n ⌝ }
+// The block at an address of an image, as a reader gives it.
+pub fn block(image: &[u8], size: u64, address: Address) -> &[u8]
+    ensures { λ r. ⌜ now r ≡ blockOf (bytes image) size (address .0) ⌝ }
 {
-    Reader::over(image, size).block(n)
+    Reader::over(image, size).block(address)
 }
 
 // A block as it is.
-pub fn raw_block(container: Container, a: Address) -> Seen
-    ensures { λ r. ⌜ ((f : ℕ → List ℕ) → seenAs (f (a .0)) r ≡ run f (readRaw container a)) ⌝ }
+pub fn raw_block(container: Container, address: Address) -> Presence
+    ensures { λ r. ⌜ ((f : ℕ → List ℕ) → thereAs (f (address .0)) r ≡ run f (readRaw container address)) ⌝ }
 {
-    if a.0 < container.count {
-        Seen::There
+    if address.0 < container.count {
+        Presence::There
     } else {
-        Seen::Refused(Refusal::PastContainer)
+        Presence::Refused(Refusal::PastContainer)
     }
 }
 
 // An object that must verify, as a reader gives it.
-pub fn object_block(image: &[u8], container: Container, a: Address) -> Seen
-    ensures { λ r. ⌜ seenAs (blockOf (now (image .entry)) (container .size) (a .0)) r ≡ run (blockOf (now (image .entry)) (container .size)) (readObject container a) ⌝ }
+pub fn object_block(image: &[u8], container: Container, address: Address) -> Presence
+    ensures { λ r. ⌜ Sees image container address r (readObject container address) ⌝ }
 {
-    Reader::over(image, container.size).object(container, a)
+    Reader::over(image, container.size).object(container, address)
 }
 
-pub enum Added {
-    To(u64),
+// A number, or why there is none.
+pub enum NumberAnswer {
+    Given(u64),
     Refused(Refusal),
 }
 
 // A sum that must stay below 2^64.
-pub fn add(a: u64, b: u64) -> Added
-    ensures { λ r. ⌜ ((f : ℕ → List ℕ) → addedAs r ≡ run f (sum a b)) ⌝ }
+pub fn add(number: u64, more: u64) -> NumberAnswer
+    ensures { λ r. ⌜ Always (numberAs r) (sum number more) ⌝ }
 {
-    if u64::MAX - a < b {
-        Added::Refused(Refusal::Overflow)
+    if u64::MAX - number < more {
+        NumberAnswer::Refused(Refusal::Overflow)
     } else {
-        Added::To(a + b)
+        NumberAnswer::Given(number + more)
     }
 }

@@ -17,11 +17,12 @@ use Rattle.blocks.specs.Reads.{Reads, Outcome, given, refused, run}
 use Rattle.blocks.specs.declared.ObjectId.{ObjectId}
 use Rattle.checkpoint.specs.Superblock.{descriptorLength, descriptorBase, descriptorIndex}
 use Rattle.checkpoint.specs.Map.{mapEntriesAt, mapEntryLength, mapCount, mappingAt, mappingsFrom, mappingsOf, belongsTo, endsChain, chainAddress, chainFrom, chain, lookup}
-use Rattle.checkpoint.specs.InPlace.{Turn, stop, onward, turnThen, turns, linkOf, testAt, lookOf, lookAt, lookupIn, mapOf, loads}
+use Rattle.checkpoint.specs.contracts.InPlace.{Turn, stop, onward, turnThen, turns, linkOf, testAt, lookOf, lookAt, lookupIn, mapOf, loads}
 use Rattle.checkpoint.specs.declared.Geometry.{Geometry}
 use Rattle.checkpoint.specs.declared.Mapping.{Mapping}
 use Rattle.checkpoint.specs.declared.Mapped.{Mapped}
 use Rattle.checkpoint.specs.declared.Mapped.the-variants.{To, Nowhere}
+use Rattle.blocks.specs.declared.Address.{Address}
 use Rattle.checkpoint.specs.declared.Link.{Link}
 use Rattle.checkpoint.specs.declared.Link.the-variants as link
 
@@ -89,7 +90,7 @@ module _ (g : Geometry) (sb : List ℕ) where
 
   -- where a block of it stands, from the base and the index that were read
   module _ (k base index : ℕ) (p : base ≡ descriptorBase sb) (q : index ≡ descriptorIndex sb) where
-    pub link-at : 0 < base + (index + k) % g .ring → base + (index + k) % g .ring < g .count → linkOf g sb k ≡ link.At (base + (index + k) % g .ring)
+    pub link-at : 0 < base + (index + k) % g .ring → base + (index + k) % g .ring < g .count → linkOf g sb k ≡ link.At (record { 0 = base + (index + k) % g .ring })
     unfolding linkOf chainAddress
     link-at h l = rw (← p, ← q) (simp (lt-ltb _ _ h, lt-ltb _ _ l))
 
@@ -129,7 +130,7 @@ module _ (f : ℕ → List ℕ) (sb : List ℕ) (p : Link) where
   pub test-outside : p ≡ link.Outside → testAt f sb p ≡ stop false
   test-outside e = rw e refl
 
-  module _ (n : ℕ) (e : p ≡ link.At n) (b : List ℕ) (is : b ≡ f n) where
+  module _ (a : Address) (e : p ≡ link.At a) (b : List ℕ) (is : b ≡ f (a .0)) where
     pub test-fails : belongsTo sb b ≡ false → testAt f sb p ≡ stop false
     test-fails o = rw (e, ← is, o) refl
 
@@ -143,7 +144,7 @@ module _ (f : ℕ → List ℕ) (id : ObjectId) (p : Link) where
   pub look-outside : p ≡ link.Outside → lookAt f id p ≡ stop Nowhere
   look-outside e = rw e refl
 
-  module _ (n : ℕ) (e : p ≡ link.At n) (b : List ℕ) (is : b ≡ f n) where
+  module _ (a : Address) (e : p ≡ link.At a) (b : List ℕ) (is : b ≡ f (a .0)) where
     pub look-found : (m : Mapping) → lookup id (mappingsOf b) ≡ To m → lookAt f id p ≡ stop (To m)
     look-found m l = rw (e, ← is, l) refl
 

@@ -1,43 +1,69 @@
 -- Laws of refusals 1 to 8, and what they leave.
-use mathlib.Core.Path.{_≡_, refl, sym, subst, _∙_}
-use mathlib.Core.Bool.{Bool, true, false, true≢false}
+use mathlib.Core.Path.{_≡_, refl, sym, ap, subst, _∙_}
+use mathlib.Core.Bool.{Bool, true, false, _||_, true≢false}
 use mathlib.Core.List.{List}
-use Prim.Native.Nat.{ℕ, _+_, _*_, _-_, _%_, _^_, _≤_, _<_}
+use Prim.Native.Nat.{ℕ, zero, suc, _+_, _*_, _-_, _%_, _^_, _≤_, _<_}
 use native.Mathlib.Omega.{arith}
+use lib.Pow.{pow-add, pow-mono, shl-exact}
 use lib.Dec.{leb, ltb, eqb}
 use borrow.Author.Tests.{le-leb, lt-leb, lt-ltb, le-ltb, eq-eqb, ne-eqb, leb-true, leb-false, ltb-true, eqb-true, eqb-false}
 use Rattle.blocks.specs.Reads.{given, refused, run, noBlocks, need, _>>=_}
 use Rattle.blocks.proofs.Laws.{and-left, and-right, need-held}
 use Rattle.blocks.specs.declared.Refusal.the-variants.{ShortImage, NoMagic, BlockSize, BlockCount, MissingBlocks, ShortMap, DescriptorLength, DescriptorArea}
 use Rattle.checkpoint.specs.Superblock.{magic, magicOf, blockCount}
-use Rattle.checkpoint.specs.Geometry.{leastSize, sizeAllowed, stated, allowed, geometry}
+use Rattle.checkpoint.specs.Geometry.{leastSize, powerFrom, sizeAllowed, stated, allowed, geometry}
 use Rattle.checkpoint.specs.declared.Geometry.{Geometry}
 
--- a size that refusal 3 gives
-abbrev pub Other : ℕ → Type 0
-Other n = (n ≡ 4096 → ⊥) × (n ≡ 8192 → ⊥) × (n ≡ 16384 → ⊥) × (n ≡ 32768 → ⊥) × (n ≡ 65536 → ⊥)
-
-pub size-other : (n : ℕ) → Other n → sizeAllowed n ≡ false
-unfolding sizeAllowed
-size-other n o = simp (ne-eqb n 4096 (o .0), ne-eqb n 8192 (o .1), ne-eqb n 16384 (o .2), ne-eqb n 32768 (o .3), ne-eqb n 65536 (o .4))
-
--- those that it lets pass are whole pages of 4,096 bytes, at most sixteen
+-- sizes that refusal 3 lets pass are whole pages of 4,096 bytes, at most sixteen
 pub record Allowed (n : ℕ) : Type 0 where
   pub least : leastSize ≤ n
   pub most : n ≤ 65536
   pub pages : n % 4096 ≡ 0
 
+power-pages : (n k : ℕ) → 12 ≤ k → k ≤ 16 → n ≡ 2 ^ k → Allowed n
+power-pages n k low high e =
+    let p : 2 ^ k ≡ 4096 * 2 ^ (k - 12) = ap (2 ^_) (omega arith) ∙ pow-add 2 12 (k - 12) in
+    record { least = omega (arith, e, pow-mono low); most = omega (arith, e, pow-mono high); pages = omega (arith, e, p) }
+
+-- as the code shifts 1
+pub power-shift : (k : ℕ) → k ≤ 16 → (1 * 2 ^ k) % 2 ^ 64 ≡ 2 ^ k
+power-shift k h = omega (arith, shl-exact {a = 1} 1 k 64 (omega arith) (omega arith))
+
+-- the powers from 2 ^ k to 2 ^ 16
+module _ (n : ℕ) where
+  pub power-done : (k : ℕ) → 16 < k → powerFrom (17 - k) k n ≡ false
+  unfolding powerFrom
+  power-done k h = rw z refl where
+    z : 17 - k ≡ 0
+    z = omega arith
+
+  pub power-here : (k : ℕ) → k ≤ 16 → n ≡ 2 ^ k → powerFrom (17 - k) k n ≡ true
+  unfolding powerFrom
+  power-here k h e = rw s (simp (eq-eqb n (2 ^ k) e)) where
+    s : 17 - k ≡ suc (16 - k)
+    s = omega arith
+
+  pub power-on : (k : ℕ) → k ≤ 16 → (n ≡ 2 ^ k → ⊥) → powerFrom (17 - k) k n ≡ powerFrom (17 - (k + 1)) (k + 1) n
+  unfolding powerFrom
+  power-on k h e = rw (s, t) (simp (ne-eqb n (2 ^ k) e)) where
+    s : 17 - k ≡ suc (16 - k)
+    s = omega arith
+
+    t : 17 - (k + 1) ≡ 16 - k
+    t = omega arith
+
+  from-allowed : (more k : ℕ) → 12 ≤ k → k + more ≤ 17 → powerFrom more k n ≡ true → Allowed n
+  unfolding powerFrom
+  from-allowed zero k low high e = absurd (true≢false (sym e))
+  from-allowed (suc more) k low high e = go (eqb n (2 ^ k)) refl (from-allowed more (k + 1) (omega arith) (omega arith)) e
+    where
+      go : (t : Bool) → eqb n (2 ^ k) ≡ t → (powerFrom more (k + 1) n ≡ true → Allowed n) → (t || powerFrom more (k + 1) n) ≡ true → Allowed n
+      go true p later q = power-pages n k low (omega arith) (eqb-true _ _ p)
+      go false p later q = later q
+
 pub size-allowed : (n : ℕ) → sizeAllowed n ≡ true → Allowed n
-size-allowed n e = record {
-  least = leb-true _ _ (held (leb leastSize n) λ f. let h : n < leastSize = leb-false _ _ f in (λ p. omega arith, λ p. omega arith, λ p. omega arith, λ p. omega arith, λ p. omega arith));
-  most = leb-true _ _ (held (leb n 65536) λ f. let h : 65536 < n = leb-false _ _ f in (λ p. omega arith, λ p. omega arith, λ p. omega arith, λ p. omega arith, λ p. omega arith));
-  pages = eqb-true _ _ (held (eqb (n % 4096) 0) λ f. let h : n % 4096 ≡ 0 → ⊥ = eqb-false _ _ f in (λ p. h (rw p refl), λ p. h (rw p refl), λ p. h (rw p refl), λ p. h (rw p refl), λ p. h (rw p refl)));
-}
-  where
-    -- a test that fails for other sizes alone
-    held : (t : Bool) → (t ≡ false → Other n) → t ≡ true
-    held true o = refl
-    held false o = absurd (true≢false (sym e ∙ size-other n (o refl)))
+unfolding sizeAllowed
+size-allowed n e = from-allowed n 5 12 (omega arith) (omega arith) e
 
 -- where each of refusals 3 to 8 is given
 module _ (len room : ℕ) (g : Geometry) where

@@ -8,7 +8,7 @@ use Rattle.fields.proofs.Rows.{row, blockFrom, every}
 use Rattle.blocks.specs.Reads.{Outcome, given, refused, run, noBlocks, need, _>>=_}
 use Rattle.blocks.specs.Refusals.{numberOf}
 use Rattle.checkpoint.specs.Superblock.{magic}
-use Rattle.checkpoint.specs.Geometry.{sizeAllowed, allowed, geometry}
+use Rattle.checkpoint.specs.Geometry.{powerFrom, sizeAllowed, allowed, geometry}
 use Rattle.checkpoint.specs.Checkpoint.{admit}
 
 abbrev number : {A : Type 0} → Outcome A → ℕ
@@ -53,5 +53,5 @@ table =
     ∷ []
 
 samples : T (every table)
-unfolding table le num run _>>=_ need sizeAllowed allowed geometry admit blockFrom
+unfolding table le num run _>>=_ need powerFrom sizeAllowed allowed geometry admit blockFrom
 samples = tt

@@ -8,6 +8,7 @@ use native.Mathlib.Omega.{arith}
 use lib.Dec.{ltb, eqb}
 use lib.ListN.{getD}
 use borrow.Author.Tests.{lt-ltb, le-ltb, eq-eqb, ne-eqb}
+use Rattle.fields.specs.Fields.{bit}
 use Rattle.fields.specs.Choice.{pick}
 use Rattle.fields.specs.Header.{kindOf, xidOf, superblockKind}
 use Rattle.fletcher.specs.Fletcher.{verifies}
@@ -18,8 +19,8 @@ use Rattle.blocks.specs.declared.Refusal.the-variants.{NoCheckpoint, Incompatib
 use Rattle.checkpoint.specs.Superblock.{magic, magicOf, sound, incompatible, blockCount}
 use Rattle.checkpoint.specs.Map.{chain}
 use Rattle.checkpoint.specs.Checkpoint.{Taken, areaFrom, isAfter, isAhead, bestFrom, loaded, try, tryFrom, takeSuperblock, admit}
-use Rattle.checkpoint.specs.InPlace.{blocksFrom, loads, mapOf}
-use Rattle.checkpoint.specs.Answers.{takenIn}
+use Rattle.checkpoint.specs.contracts.InPlace.{blocksFrom, loads, mapOf}
+use Rattle.checkpoint.specs.contracts.Answers.{takenIn}
 use Rattle.checkpoint.proofs.ChainLaws.{chain-loads, chain-fails}
 use Rattle.checkpoint.specs.declared.Geometry.{Geometry}
 use Rattle.checkpoint.specs.declared.Candidate.{Candidate}
@@ -173,7 +174,7 @@ module _ (f : ℕ → List ℕ) (g : Geometry) where
             let at : getD area (c .at) [] ≡ sb = blocks-at f (g .ring) (g .base) (c .at) (next-inside last c best) ∙ sym is in
             rw (less, best) (rw at refl)
 
-    pub try-here : loads (run f (chain g sb)) ≡ true → tryLeft left last ≡ given (takenIn f g (g .base + c .at))
+    pub try-here : loads (run f (chain g sb)) ≡ true → tryLeft left last ≡ given (takenIn f g (record { 0 = g .base + c .at }))
     unfolding run loaded
     try-here e =
         let at : g .base + c .at - g .base ≡ c .at = add-sub-cancel-left _ _ in
@@ -190,7 +191,7 @@ module _ (f : ℕ → List ℕ) (g : Geometry) where
     pub inside : t .at < g .ring
     pub stands : t .sb ≡ f (g .base + t .at)
 
-  taken-at : (c : Candidate) → c .at < g .ring → loads (run f (chain g (f (g .base + c .at)))) ≡ true → IsTaken (takenIn f g (g .base + c .at))
+  taken-at : (c : Candidate) → c .at < g .ring → loads (run f (chain g (f (g .base + c .at)))) ≡ true → IsTaken (takenIn f g (record { 0 = g .base + c .at }))
   taken-at c h l =
       let at : g .base + c .at - g .base ≡ c .at = add-sub-cancel-left _ _ in
       record { loaded = l; mapped = refl; inside = rw at h; stands = rw at refl }
@@ -214,21 +215,21 @@ module _ (f : ℕ → List ℕ) (g : Geometry) where
   taken-given t e = tried-given (g .ring) Nothing t (sym take-tries ∙ e)
 
 -- refusals 10 and 11, from the flags that were read
-module _ (f : ℕ → List ℕ) (g : Geometry) (t : Taken) (sb : List ℕ) (is : t .sb ≡ sb) (flags : ℕ) (read : flags ≡ incompatible sb) where
-  pub admit-first : flags / 0x1 % 2 ≡ 1 → run f (admit g t) ≡ refused Incompatible
+module _ (g : Geometry) (t : Taken) (sb : List ℕ) (is : t .sb ≡ sb) (flags : ℕ) (read : flags ≡ incompatible sb) (f : ℕ → List ℕ) where
+  pub admit-first : bit 0 flags ≡ true → run f (admit g t) ≡ refused Incompatible
   unfolding run admit need _>>=_
-  admit-first e = rw (is, ← read) (simp (eq-eqb _ _ e))
+  admit-first e = rw (is, ← read) (simp e)
 
-  module _ (p : flags / 0x1 % 2 ≡ 1 → ⊥) where
-    pub admit-second : flags / 0x100 % 2 ≡ 1 → run f (admit g t) ≡ refused Incompatible
+  module _ (p : bit 0 flags ≡ false) where
+    pub admit-second : bit 8 flags ≡ true → run f (admit g t) ≡ refused Incompatible
     unfolding run admit need _>>=_
-    admit-second e = rw (is, ← read) (simp (ne-eqb _ _ p, eq-eqb _ _ e))
+    admit-second e = rw (is, ← read) (simp (p, e))
 
-    module _ (q : flags / 0x100 % 2 ≡ 1 → ⊥) where
+    module _ (q : bit 8 flags ≡ false) where
       pub admit-differs : (blockCount sb ≡ g .count → ⊥) → run f (admit g t) ≡ refused CountDiffers
       unfolding run admit need _>>=_
-      admit-differs e = rw (is, ← read) (simp (ne-eqb _ _ p, ne-eqb _ _ q, ne-eqb _ _ e))
+      admit-differs e = rw (is, ← read) (simp (p, q, ne-eqb _ _ e))
 
       pub admit-as : blockCount sb ≡ g .count → run f (admit g t) ≡ given (record { size = g .size; count = g .count; xid = xidOf sb })
       unfolding run admit need _>>=_
-      admit-as e = rw (is, ← read) (simp (ne-eqb _ _ p, ne-eqb _ _ q, eq-eqb _ _ e))
+      admit-as e = rw (is, ← read) (simp (p, q, eq-eqb _ _ e))

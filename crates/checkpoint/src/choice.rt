@@ -1,12 +1,13 @@
 // The superblock that a pass takes: refusals 9 to 11.
-use crate::Admitted;
 use crate::Best;
 use crate::Candidate;
-use crate::Chosen;
+use crate::ContainerAnswer;
 use crate::Geometry;
 use crate::block_zero::MAGIC;
 use crate::chain;
 use crate::superblock;
+use blocks::Address;
+use blocks::AddressAnswer;
 use blocks::Container;
 use blocks::Refusal;
 ghost use mathlib.Core.List.{List, [], _∷_};
@@ -15,50 +16,53 @@ ghost use Prim.Native.Nat.{ℕ, _+_, _<_, _≤_, _^_};
 ghost use Rattle.blocks.specs.Reads.{run};
 ghost use Rattle.blocks.specs.Blocks.{blockOf};
 ghost use Rattle.checkpoint.specs.Checkpoint.{Taken, isAfter, isAhead, bestFrom, takeSuperblock, admit as admitOf};
-ghost use Rattle.checkpoint.specs.InPlace.{blocksFrom};
+ghost use Rattle.checkpoint.specs.contracts.InPlace.{blocksFrom};
 ghost use Rattle.checkpoint.specs.declared.Best.the-variants.{Nothing};
-ghost use Rattle.checkpoint.specs.Answers.{chosenAs, admittedAs};
+ghost use Rattle.blocks.specs.contracts.Images.{bytes};
+ghost use Rattle.blocks.specs.contracts.Answers.{Always};
+ghost use Rattle.checkpoint.specs.contracts.Answers.{containerAs, Takes};
 
 const SUPERBLOCK: u64 = 1;
 
-// Incompatible flags 0x1 and 0x100.
-const FIRST_FLAG: u64 = 0x1;
+// The bits of incompatible flags 0x1 and 0x100.
+const FIRST_FLAG: u64 = 0;
 
-const SECOND_FLAG: u64 = 0x100;
+const SECOND_FLAG: u64 = 8;
 
-// Whether the i-th block of the area, of transaction x, comes after the one tried last.
-fn is_after(last: Best, x: u64, i: u64) -> bool
-    ensures { λ r. ⌜ r ≡ isAfter last x i ⌝ }
+// Whether the block of the area at this index, of this transaction, comes after the one tried last.
+fn is_after(last: Best, xid: u64, index: u64) -> bool
+    ensures { λ r. ⌜ r ≡ isAfter last xid index ⌝ }
 {
     match last {
         Best::Nothing => true,
         Best::Superblock(c) => {
-            if x < c.xid {
+            if xid < c.xid {
                 return true;
             }
-            if x == c.xid {
-                return c.at < i;
+            if xid == c.xid {
+                return c.at < index;
             }
             false
         }
     }
 }
 
-fn is_ahead(best: Best, x: u64) -> bool
-    ensures { λ r. ⌜ r ≡ isAhead best x ⌝ }
+fn is_ahead(best: Best, xid: u64) -> bool
+    ensures { λ r. ⌜ r ≡ isAhead best xid ⌝ }
 {
     match best {
         Best::Nothing => true,
-        Best::Superblock(c) => c.xid < x,
+        Best::Superblock(c) => c.xid < xid,
     }
 }
 
 // The better of the best found and the i-th block of the area, which is summed only where it would win.
-fn better(image: &[u8], g: Geometry, last: Best, i: u64, best: Best) -> Best
-    requires { ⌜ g .base + i < 2 ^ 64 ⌝ }
-    ensures { λ r. ⌜ r ≡ bestFrom last i (blockOf (now (image .entry)) (g .size) (g .base + i) ∷ []) best ⌝ }
+fn better(image: &[u8], geometry: Geometry, last: Best, index: u64, best: Best) -> Best
+    requires { ⌜ geometry .base + index < 2 ^ 64 ⌝ }
+    ensures { λ r. ⌜ r ≡ bestFrom last index (blockOf (bytes image) (geometry .size) (geometry .base + index) ∷ []) best ⌝ }
 {
-    let b = blocks::block(image, g.size, g.base + i);
+    let n = geometry.base + index;
+    let b = blocks::block(image, geometry.size, Address(n));
     if fields::kind(b) != SUPERBLOCK {
         return best;
     }
@@ -66,7 +70,7 @@ fn better(image: &[u8], g: Geometry, last: Best, i: u64, best: Best) -> Best
         return best;
     }
     let xid = fields::xid(b);
-    if !is_after(last, xid, i) {
+    if !is_after(last, xid, index) {
         return best;
     }
     if !is_ahead(best, xid) {
@@ -75,41 +79,42 @@ fn better(image: &[u8], g: Geometry, last: Best, i: u64, best: Best) -> Best
     if !fletcher::verify(b) {
         return best;
     }
-    Best::Superblock(Candidate { at: i, xid })
+    Best::Superblock(Candidate { at: index, xid })
 }
 
 // The next best after the one tried last: the highest xid, equal ones in ring order.
-fn next_best(image: &[u8], g: Geometry, last: Best) -> Best
-    requires { ⌜ g .base + g .ring < 2 ^ 64 ⌝ }
-    ensures { λ r. ⌜ r ≡ bestFrom last 0 (blocksFrom (blockOf (now (image .entry)) (g .size)) (g .ring) (g .base)) Nothing ⌝ }
+fn next_best(image: &[u8], geometry: Geometry, last: Best) -> Best
+    requires { ⌜ geometry .base + geometry .ring < 2 ^ 64 ⌝ }
+    ensures { λ r. ⌜ r ≡ bestFrom last 0 (blocksFrom (blockOf (bytes image) (geometry .size)) (geometry .ring) (geometry .base)) Nothing ⌝ }
 {
     let mut best = Best::Nothing;
     let mut i = 0;
-    while i < g.ring {
-        best = better(image, g, last, i, best);
+    while i < geometry.ring {
+        best = better(image, geometry, last, i, best);
         i += 1;
     }
     best
 }
 
 // The sound superblock that is taken: a repeated search for the next best, until one's chain loads.
-pub fn take_superblock(image: &[u8], g: Geometry) -> Chosen
-    requires { ⌜ g .base + g .ring < 2 ^ 64 ⌝ }
-    ensures { λ r. ⌜ chosenAs (blockOf (now (image .entry)) (g .size)) g r ≡ run (blockOf (now (image .entry)) (g .size)) (takeSuperblock g) ⌝ }
+pub fn take_superblock(image: &[u8], geometry: Geometry) -> AddressAnswer
+    requires { ⌜ geometry .base + geometry .ring < 2 ^ 64 ⌝ }
+    ensures { λ r. ⌜ Takes image geometry r ⌝ }
 {
     let mut last = Best::Nothing;
-    let mut left = g.ring;
+    let mut left = geometry.ring;
     let chosen = loop {
         if left == 0 {
-            break Chosen::Refused(Refusal::NoCheckpoint);
+            break AddressAnswer::Refused(Refusal::NoCheckpoint);
         }
-        let best = next_best(image, g, last);
+        let best = next_best(image, geometry, last);
         match best {
-            Best::Nothing => break Chosen::Refused(Refusal::NoCheckpoint),
+            Best::Nothing => break AddressAnswer::Refused(Refusal::NoCheckpoint),
             Best::Superblock(c) => {
-                let n = g.base + c.at;
-                if chain::loads(image, g, blocks::block(image, g.size, n)) {
-                    break Chosen::At(n);
+                let n = geometry.base + c.at;
+                let a = Address(n);
+                if chain::loads(image, geometry, blocks::block(image, geometry.size, a)) {
+                    break AddressAnswer::Given(a);
                 }
                 last = Best::Superblock(c);
             }
@@ -120,22 +125,22 @@ pub fn take_superblock(image: &[u8], g: Geometry) -> Chosen
 }
 
 // What a pass reads from here on, once the superblock sb is taken.
-pub fn admit(g: Geometry, sb: &[u8]) -> Admitted
-    ensures { λ r. ⌜ ((t : Taken) (f : ℕ → List ℕ) → t .sb ≡ now (sb .entry) → admittedAs r ≡ run f (admitOf g t)) ⌝ }
+pub fn admit(geometry: Geometry, sb: &[u8]) -> ContainerAnswer
+    ensures { λ r. ⌜ ((t : Taken) → t .sb ≡ bytes sb → Always (containerAs r) (admitOf geometry t)) ⌝ }
 {
     let flags = superblock::incompatible(sb);
-    if flags / FIRST_FLAG % 2 == 1 {
-        return Admitted::Refused(Refusal::Incompatible);
+    if fields::has_bit(flags, FIRST_FLAG) {
+        return ContainerAnswer::Refused(Refusal::Incompatible);
     }
-    if flags / SECOND_FLAG % 2 == 1 {
-        return Admitted::Refused(Refusal::Incompatible);
+    if fields::has_bit(flags, SECOND_FLAG) {
+        return ContainerAnswer::Refused(Refusal::Incompatible);
     }
-    if superblock::block_count(sb) != g.count {
-        return Admitted::Refused(Refusal::CountDiffers);
+    if superblock::block_count(sb) != geometry.count {
+        return ContainerAnswer::Refused(Refusal::CountDiffers);
     }
-    Admitted::As(Container {
-        size: g.size,
-        count: g.count,
+    ContainerAnswer::Given(Container {
+        size: geometry.size,
+        count: geometry.count,
         xid: fields::xid(sb),
     })
 }

@@ -17,9 +17,16 @@ pub struct Geometry {
     pub ring: u64,
 }
 
-pub enum Opened {
-    As(Geometry),
+pub enum GeometryAnswer {
+    Given(Geometry),
     Refused(Refusal),
+}
+
+// The checkpoint that a pass takes: its container, the descriptor area that block 0 names, and where its superblock stands.
+pub struct Checkpoint {
+    pub container: Container,
+    pub geometry: Geometry,
+    pub superblock: Address,
 }
 
 // A sound superblock: its place in the descriptor area, and its transaction.
@@ -33,25 +40,19 @@ pub enum Best {
     Nothing,
 }
 
-// The block of the superblock that is taken.
-pub enum Chosen {
-    At(u64),
-    Refused(Refusal),
-}
-
-pub enum Admitted {
-    As(Container),
+pub enum ContainerAnswer {
+    Given(Container),
     Refused(Refusal),
 }
 
 // Where a block of a chain stands, unless its address is a bad one.
 pub enum Link {
-    At(u64),
+    At(Address),
     Outside,
 }
 
 // Whether a block of a chain loads, and is the last.
-pub enum Tested {
+pub enum LinkTest {
     Fails,
     Ends,
     Onward,
@@ -70,7 +71,7 @@ pub enum Mapped {
 }
 
 // What one block of a chain says of an id.
-pub enum Looked {
+pub enum LinkLookup {
     Found(Mapping),
     Ends,
     Onward,

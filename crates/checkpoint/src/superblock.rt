@@ -3,10 +3,12 @@ use blocks::Address;
 use blocks::ObjectId;
 ghost use mathlib.Core.Path.{_≡_};
 ghost use Prim.Native.Nat.{_<_, _^_};
-ghost use Rattle.checkpoint.specs.Superblock.{magicOf, blockSize as blockSizeOf, blockCount as blockCountOf, incompatible as incompatibleOf, descriptorBlocks, dataBlocks, descriptorBase, dataBase, descriptorIndex, descriptorLength, managerId, objectMapAddress};
+ghost use Rattle.checkpoint.specs.Superblock.{magicOf, blockSize as blockSizeOf, blockCount as blockCountOf, incompatible as incompatibleOf, descriptorBlocks, dataBlocks, descriptorBase, dataBase, descriptorIndex, descriptorLength, managerId, objectMapAddress, withoutTopBit};
 
-// The top bit of an area's length, which is no part of it.
-pub const TOP_BIT: u64 = 0x80000000;
+// The top bit of an area's length, which is no part of it, and the bits that are.
+pub(crate) const TOP_BIT: u64 = 0x80000000;
+
+const LENGTH_BITS: u64 = 0x7fffffff;
 
 const MAGIC_BYTES: usize = 32;
 
@@ -32,25 +34,32 @@ const MANAGER_ID: usize = 152;
 
 const OBJECT_MAP: usize = 160;
 
-pub fn magic_bytes(sb: &[u8]) -> u64
+// The length of an area, whose top bit says something else.
+pub fn without_top_bit(length: u64) -> u64
+    ensures { λ r. ⌜ r ≡ withoutTopBit length ⌝ }
+{
+    length & LENGTH_BITS
+}
+
+pub(crate) fn magic_bytes(sb: &[u8]) -> u64
     ensures { λ r. ⌜ r ≡ magicOf (now (sb .entry)) ⌝ }
 {
     fields::u32_of(sb, MAGIC_BYTES)
 }
 
-pub fn block_size(sb: &[u8]) -> u64
+pub(crate) fn block_size(sb: &[u8]) -> u64
     ensures { λ r. ⌜ r ≡ blockSizeOf (now (sb .entry)) ⌝ }
 {
     fields::u32_of(sb, BLOCK_SIZE)
 }
 
-pub fn block_count(sb: &[u8]) -> u64
+pub(crate) fn block_count(sb: &[u8]) -> u64
     ensures { λ r. ⌜ r ≡ blockCountOf (now (sb .entry)) ⌝ }
 {
     fields::u64_of(sb, BLOCK_COUNT)
 }
 
-pub fn incompatible(sb: &[u8]) -> u64
+pub(crate) fn incompatible(sb: &[u8]) -> u64
     ensures { λ r. ⌜ r ≡ incompatibleOf (now (sb .entry)) ⌝ }
 {
     fields::u64_of(sb, INCOMPATIBLE)
@@ -80,13 +89,13 @@ pub fn data_base(sb: &[u8]) -> u64
     fields::u64_of(sb, DATA_BASE)
 }
 
-pub fn descriptor_index(sb: &[u8]) -> u64
+pub(crate) fn descriptor_index(sb: &[u8]) -> u64
     ensures { λ r. ⌜ (r ≡ descriptorIndex (now (sb .entry))) × (r < 2 ^ 32) ⌝ }
 {
     fields::u32_of(sb, DESCRIPTOR_INDEX)
 }
 
-pub fn descriptor_length(sb: &[u8]) -> u64
+pub(crate) fn descriptor_length(sb: &[u8]) -> u64
     ensures { λ r. ⌜ (r ≡ descriptorLength (now (sb .entry))) × (r < 2 ^ 32) ⌝ }
 {
     fields::u32_of(sb, DESCRIPTOR_LENGTH)

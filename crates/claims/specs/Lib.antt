@@ -1,4 +1,3 @@
--- The claims on blocks, and what the code's answers stand for.
+-- The claims on blocks.
 pub mod Claims
-pub mod Answers
-pub mod Unlogged
+pub mod contracts

@@ -1,27 +1,30 @@
 // The claims: who owns each block.
-use blocks::Added;
 use blocks::Address;
 use blocks::Container;
+use blocks::NumberAnswer;
+use nodes::EntryPlace;
 use nodes::Part;
-use nodes::Places;
 use nodes::Value;
-use queue::Got;
-use queue::Ran;
+use nodes::entries::field_in;
+use queue::RunAnswer;
+use report::Cursor;
+use report::Ending;
 use report::Overlap;
 use report::OverlapLog;
 use report::Step;
+use report::steps;
+use totals::UNOWNED;
 ghost use mathlib.Core.Path.{_≡_};
 ghost use mathlib.Core.Bool.{_||_};
-ghost use mathlib.Core.List.{List};
-ghost use Prim.Native.Nat.{ℕ, min, _-_, _<_, _≤_};
+ghost use Prim.Native.Nat.{_+_, _%_, _<_};
 ghost use lib.Dec.{eqb};
-ghost use Rattle.blocks.specs.Reads.{run};
-ghost use Rattle.nodes.specs.Answers.{partIn};
+ghost use Rattle.blocks.specs.contracts.Images.{bytes};
+ghost use Rattle.blocks.specs.contracts.Answers.{numberAs, Always};
+ghost use Rattle.nodes.specs.contracts.Answers.{partIn, entryIn};
+ghost use Rattle.report.specs.contracts.Steps.{Ahead, Within};
 ghost use Rattle.totals.specs.Totals.{unowned};
-ghost use Rattle.queue.specs.Answers.{gotAs, placesIn};
-ghost use Rattle.claims.specs.Claims.{claimBlock, claimFrom, claimNode, claimMapping, claimQueued};
-ghost use Rattle.claims.specs.Claims.{claim as claimOf};
-ghost use Rattle.claims.specs.Answers.{owned, mappedAddress, ClaimedAs, OwnedTo};
+ghost use Rattle.claims.specs.Claims.{claimBlock, claimNode, mappedAddress, claim as claimOf};
+ghost use Rattle.claims.specs.contracts.Answers.{Claims, ClaimsTo, ClaimsNext, Owns, blocksLeft, endOf, claimingMapping, claimingQueued};
 
 pub mod unlogged;
 
@@ -34,18 +37,15 @@ pub const DATA_AREA: u8 = 3;
 
 pub const INTERNAL_POOL: u8 = 4;
 
-pub const POOL_BITMAP_RING: u8 = 5;
+pub(crate) const POOL_BITMAP_RING: u8 = 5;
 
 pub const OBJECT_MAP: u8 = 6;
 
 pub const OBJECT_MAP_NODE: u8 = 7;
 
-pub const VOLUME_SUPERBLOCK: u8 = 8;
+pub(crate) const VOLUME_SUPERBLOCK: u8 = 8;
 
-pub const FREE_QUEUE: u8 = 9;
-
-// The owner of a block that nothing claimed.
-const UNOWNED: u8 = 0;
+pub(crate) const FREE_QUEUE: u8 = 9;
 
 // Fields of a mapping: the id and the transaction in its key, the address in its value.
 const ID: usize = 0;
@@ -56,8 +56,14 @@ const ADDRESS: usize = 8;
 
 // How a claim ended, and the overlaps counted so far.
 pub struct Claimed {
-    pub step: Step,
+    pub ending: Ending,
     pub log: OverlapLog,
+}
+
+// Where a claim came to along its blocks, and the overlaps counted so far.
+struct ClaimStep {
+    step: Step,
+    log: OverlapLog,
 }
 
 // Whether a claim of a kind takes a block: one that nothing claimed, or that its own kind holds.
@@ -67,84 +73,89 @@ pub(crate) fn takes(kind: u8, held: u8) -> bool
     held == UNOWNED || held == kind
 }
 
-pub(crate) fn least(a: u64, b: u64) -> u64
-    ensures { λ r. ⌜ r ≡ min a b ⌝ }
-{
-    if a < b { a } else { b }
-}
-
-fn claim_block(map: &mut [u8], kind: u8, a: u64, log: OverlapLog) -> Claimed
+fn claim_block(map: &mut [u8], kind: u8, block: u64, log: OverlapLog) -> Claimed
     requires { ⌜ kind < 16 ⌝ }
-    ensures { λ r. ⌜ ((count : ℕ) → a < count → ClaimedAs count r (now (map .entry)) (now (map .exit)) (claimBlock kind a (owned (now (map .entry)) log))) ⌝ }
+    ensures { λ r. ⌜ ClaimsTo map (block + 1) log r (claimBlock kind block) ⌝ }
 {
-    let held = block_map::owner(block_map::cell(map, a));
+    let held = block_map::owner(block_map::cell(map, block));
     if takes(kind, held) {
-        block_map::own_block(map, a, kind);
-        let step = Step::Done;
-        return Claimed { step, log };
+        block_map::own_block(map, block, kind);
+        let ending = Ending::Done;
+        return Claimed { ending, log };
     }
     let o = Overlap {
-        block: a,
+        block,
         owner: held,
         claimant: kind,
     };
     let logged = report::logs::add_overlap(log, o);
-    let step = logged.step;
+    let ending = logged.ending;
     let log = logged.log;
-    Claimed { step, log }
+    Claimed { ending, log }
 }
 
-// Owns the blocks from start on, up to the first that another kind holds, or end; no log is carried along.
-fn own_from(map: &mut [u8], kind: u8, start: u64, end: u64) -> u64
-    requires { ⌜ kind < 16 ⌝ }
-    ensures { λ r. ⌜ OwnedTo kind start end r (now (map .entry)) (now (map .exit)) ⌝ }
+// Owns the blocks from a cursor on, up to the first that another kind holds; no log is carried along.
+fn own_from(map: &mut [u8], kind: u8, from: Cursor) -> Cursor
+    requires { ⌜ (kind < 16) × Within from ⌝ }
+    ensures { λ r. ⌜ Owns map from r (blocksLeft kind) ⌝ }
 {
-    let mut a = start;
-    while a < end {
-        let held = block_map::owner(block_map::cell(map, a));
-        if !takes(kind, held) {
-            return a;
-        }
-        block_map::own_block(map, a, kind);
-        a += 1;
+    let end = from.next + from.left;
+    let mut next = from.next;
+    while next < end && takes(kind, block_map::owner(block_map::cell(map, next))) {
+        block_map::own_block(map, next, kind);
+        next += 1;
     }
-    a
+    Cursor {
+        next,
+        left: end - next,
+    }
 }
 
-// The blocks from start up to end, which is inside the container.
-fn claim_from(
-    map: &mut [u8],
-    count: u64,
-    kind: u8,
-    start: u64,
-    end: u64,
-    log: OverlapLog,
-) -> Claimed
-    requires { ⌜ (kind < 16) × (end ≤ count) ⌝ }
-    ensures { λ r. ⌜ ClaimedAs count r (now (map .entry)) (now (map .exit)) (claimFrom kind (end - start) start (owned (now (map .entry)) log)) ⌝ }
+// The block at a cursor, whoever holds it.
+fn claim_next(map: &mut [u8], kind: u8, at: Cursor, log: OverlapLog) -> ClaimStep
+    requires { ⌜ (kind < 16) × Ahead at ⌝ }
+    ensures { λ r. ⌜ ClaimsNext map at log r (blocksLeft kind) ⌝ }
+{
+    let claimed = claim_block(map, kind, at.next, log);
+    let ending = claimed.ending;
+    let log = claimed.log;
+    let step = steps::past(ending, at);
+    ClaimStep { step, log }
+}
+
+// The blocks from a cursor on: the log is looked at only for those that another kind holds.
+fn claim_from(map: &mut [u8], kind: u8, from: Cursor, log: OverlapLog) -> Claimed
+    requires { ⌜ (kind < 16) × Within from ⌝ }
+    ensures { λ r. ⌜ ClaimsTo map (endOf from) log r (blocksLeft kind from) ⌝ }
 {
     let mut overlaps = log;
-    let mut a = own_from(map, kind, start, end);
-    while a < end {
-        let claimed = claim_block(map, kind, a, overlaps);
+    let mut at = own_from(map, kind, from);
+    while at.left != 0 {
+        let claimed = claim_next(map, kind, at, overlaps);
         let step = claimed.step;
         match step {
-            Step::Refused(_) => return claimed,
-            Step::Done => {
-                let next = claimed.log;
-                overlaps = next;
-                a = own_from(map, kind, a + 1, end);
+            Step::Refused(r) => {
+                let ending = Ending::Refused(r);
+                return Claimed {
+                    ending,
+                    log: overlaps,
+                };
+            }
+            Step::On(to) => {
+                overlaps = claimed.log;
+                at = own_from(map, kind, to);
             }
         }
     }
-    let step = Step::Done;
+    let ending = Ending::Done;
     Claimed {
-        step,
+        ending,
         log: overlaps,
     }
 }
 
-// Blocks past the block count are never claimed.
+// A kind is below 16; of any other number the low four bits are taken: the map has room for no more.
+// Blocks past the block count are never claimed: the claim ends there, and one that starts past it has no block.
 pub fn claim(
     map: &mut [u8],
     container: Container,
@@ -153,42 +164,50 @@ pub fn claim(
     len: u64,
     log: OverlapLog,
 ) -> Claimed
-    requires { ⌜ kind < 16 ⌝ }
-    ensures { λ r. ⌜ ClaimedAs (container .count) r (now (map .entry)) (now (map .exit)) (claimOf container kind start len (owned (now (map .entry)) log)) ⌝ }
+    ensures { λ r. ⌜ Claims map container log r (claimOf container (kind % 16) start len) ⌝ }
 {
+    let claimant = block_map::owner(kind);
     let sum = blocks::add(start, len);
     match sum {
-        Added::Refused(r) => {
-            let step = Step::Refused(r);
-            Claimed { step, log }
+        NumberAnswer::Refused(r) => {
+            let ending = Ending::Refused(r);
+            Claimed { ending, log }
         }
-        Added::To(n) => {
-            let end = least(n, container.count);
-            claim_from(map, container.count, kind, start, end, log)
+        NumberAnswer::Given(n) => {
+            let end = fields::least(n, container.count);
+            let next = fields::least(start, end);
+            let left = end - next;
+            claim_from(map, claimant, Cursor { next, left }, log)
         }
     }
 }
 
-// A node of the object map's tree.
-pub fn claim_node(map: &mut [u8], container: Container, a: Address, log: OverlapLog) -> Claimed
-    ensures { λ r. ⌜ ClaimedAs (container .count) r (now (map .entry)) (now (map .exit)) (claimNode container (owned (now (map .entry)) log) a) ⌝ }
+// A node of a tree, by the kind of the tree's nodes.
+pub fn claim_node(
+    map: &mut [u8],
+    container: Container,
+    kind: u8,
+    address: Address,
+    log: OverlapLog,
+) -> Claimed
+    ensures { λ r. ⌜ Claims map container log r (λ s. claimNode container (kind % 16) s address) ⌝ }
 {
-    claim(map, container, OBJECT_MAP_NODE, a.0, 1, log)
+    claim(map, container, kind, address.0, 1, log)
 }
 
 // A mapping's address; its key's fields must exist too.
-pub(crate) fn mapped_address(node: &[u8], key: Part, value: Part) -> Got
-    ensures { λ r. ⌜ ((f : ℕ → List ℕ) → gotAs r ≡ run f (mappedAddress (partIn (now (node .entry)) key) (partIn (now (node .entry)) value))) ⌝ }
+pub(crate) fn mapped_address(node: &[u8], key: Part, value: Part) -> NumberAnswer
+    ensures { λ r. ⌜ Always (numberAs r) (mappedAddress (partIn (bytes node) key) (partIn (bytes node) value)) ⌝ }
 {
-    let id = queue::field_in(node, key, ID);
-    if let Got::Refused(r) = id {
-        return Got::Refused(r);
+    let id = field_in(node, key, ID);
+    if let NumberAnswer::Refused(r) = id {
+        return NumberAnswer::Refused(r);
     }
-    let xid = queue::field_in(node, key, XID);
-    if let Got::Refused(r) = xid {
-        return Got::Refused(r);
+    let xid = field_in(node, key, XID);
+    if let NumberAnswer::Refused(r) = xid {
+        return NumberAnswer::Refused(r);
     }
-    queue::field_in(node, value, ADDRESS)
+    field_in(node, value, ADDRESS)
 }
 
 // An entry of the object map: a ghost maps nothing.
@@ -196,26 +215,26 @@ pub fn claim_mapping(
     map: &mut [u8],
     node: &[u8],
     container: Container,
-    e: Places,
+    place: EntryPlace,
     log: OverlapLog,
 ) -> Claimed
-    ensures { λ r. ⌜ ClaimedAs (container .count) r (now (map .entry)) (now (map .exit)) (claimMapping container (owned (now (map .entry)) log) (placesIn (now (node .entry)) e)) ⌝ }
+    ensures { λ r. ⌜ Claims map container log r (claimingMapping container (entryIn (bytes node) place)) ⌝ }
 {
-    let key = e.key;
-    let value = e.value;
+    let key = place.key;
+    let value = place.value;
     match value {
         Value::Ghost => {
-            let step = Step::Done;
-            Claimed { step, log }
+            let ending = Ending::Done;
+            Claimed { ending, log }
         }
         Value::At(p) => {
             let got = mapped_address(node, key, p);
             match got {
-                Got::Refused(r) => {
-                    let step = Step::Refused(r);
-                    Claimed { step, log }
+                NumberAnswer::Refused(r) => {
+                    let ending = Ending::Refused(r);
+                    Claimed { ending, log }
                 }
-                Got::Value(a) => claim(map, container, VOLUME_SUPERBLOCK, a, 1, log),
+                NumberAnswer::Given(a) => claim(map, container, VOLUME_SUPERBLOCK, a, 1, log),
             }
         }
     }
@@ -226,17 +245,17 @@ pub fn claim_queued(
     map: &mut [u8],
     node: &[u8],
     container: Container,
-    e: Places,
+    place: EntryPlace,
     log: OverlapLog,
 ) -> Claimed
-    ensures { λ r. ⌜ ClaimedAs (container .count) r (now (map .entry)) (now (map .exit)) (claimQueued container (owned (now (map .entry)) log) (placesIn (now (node .entry)) e)) ⌝ }
+    ensures { λ r. ⌜ Claims map container log r (claimingQueued container (entryIn (bytes node) place)) ⌝ }
 {
-    let ran = queue::run_of(node, e);
+    let ran = queue::run_of(node, place);
     match ran {
-        Ran::Refused(r) => {
-            let step = Step::Refused(r);
-            Claimed { step, log }
+        RunAnswer::Refused(r) => {
+            let ending = Ending::Refused(r);
+            Claimed { ending, log }
         }
-        Ran::As(b) => claim(map, container, FREE_QUEUE, b.start, b.count, log),
+        RunAnswer::Given(b) => claim(map, container, FREE_QUEUE, b.start, b.count, log),
     }
 }

@@ -14,7 +14,7 @@ use Rattle.fields.specs.Header.{xidOf}
 use Rattle.blocks.specs.Reads.{Reads, done, _>>=_, run, visits, given}
 use Rattle.blocks.proofs.Laws.{run-bind, visits-bind}
 use Rattle.checkpoint.specs.Superblock.{sound}
-use Rattle.checkpoint.specs.InPlace.{blocksFrom}
+use Rattle.checkpoint.specs.contracts.InPlace.{blocksFrom}
 use Rattle.checkpoint.proofs.SearchLaws.{area-run, blocks-at}
 use Rattle.checkpoint.specs.Map.{chain}
 use Rattle.checkpoint.specs.Checkpoint.{Taken, areaFrom, isAfter, isAhead, bestFrom, loaded, try, tryFrom, takeSuperblock}

@@ -6,12 +6,14 @@ use Prim.Native.Nat.{ℕ, zero, suc, _+_, _-_, _*_, _/_, _%_, _^_, _≤_, _<_}
 use native.Mathlib.Nat.{lt-of-lt-of-le, zero-div, add-zero, mul-le-mul-right}
 use native.Mathlib.Omega.{arith}
 use lib.Bits.{bitAnd, and-mask}
-use lib.Dec.{eqb, ltb}
+use native.Mathlib.Decide.{decLe}
+use lib.Dec.{eqb, ltb, leb}
 use lib.ListN.{length, getD, take, drop, length-drop, drop-of-length-le, List·getD-eq-default}
 use lib.Seq.{drop-nil, take-nil, take-all}
 use lib.Pow.{pow-add, pow-mono, pow-pos, shl-exact}
 use borrow.Author.Tests.{le-leb, lt-leb, lt-ltb, le-ltb}
-use Rattle.fields.specs.Fields.{Number, FieldOf, le, num, fieldAt, bit, bitAt}
+use Rattle.fields.specs.contracts.Numbers.{NumberAt, FieldOf}
+use Rattle.fields.specs.Fields.{le, num, fieldAt, bit, bitAt}
 use Rattle.fields.specs.declared.Field.{Field}
 use Rattle.fields.specs.declared.Field.the-variants.{Value, Absent}
 
@@ -51,7 +53,7 @@ num-above (suc k) b off = rw (num-step (suc k) b off, num-above k b (suc off), n
     p = omega arith
 
 -- a turn of the reader's loop: a byte shifted above the k before it
-module _ (b : List ℕ) (off k v x : ℕ) (below : k < 8) (so-far : Number k b off v) (byte : x ≡ getD b (off + k) 0) (small : x < 256) where
+module _ (b : List ℕ) (off k v x : ℕ) (below : k < 8) (so-far : NumberAt k b off v) (byte : x ≡ getD b (off + k) 0) (small : x < 256) where
   whole-byte : x * 2 ^ (8 * k) % 2 ^ 64 ≡ x * 2 ^ (8 * k)
   whole-byte = shl-exact {a = x} 8 (8 * k) 64 small (omega arith)
 
@@ -64,7 +66,7 @@ module _ (b : List ℕ) (off k v x : ℕ) (below : k < 8) (so-far : Number k b o
   pub above-fits : v + x * 2 ^ (8 * k) % 2 ^ 64 < 2 ^ 64
   above-fits = rw whole-byte (lt-of-lt-of-le grown (pow-mono {j = 64} (omega arith)))
 
-  pub byte-above : Number (k + 1) b off (v + x * 2 ^ (8 * k) % 2 ^ 64)
+  pub byte-above : NumberAt (k + 1) b off (v + x * 2 ^ (8 * k) % 2 ^ 64)
   byte-above = record { is = rw (whole-byte, so-far .is, byte, next) (sym (num-above k b off)); fits = rw whole-byte grown }
     where
       next : k + 1 ≡ suc k
@@ -97,6 +99,17 @@ module _ (i limit : ℕ) (asked : Bool) where
   pub past-limit : limit ≤ i → false ≡ (ltb i limit && asked)
   past-limit h = rw (le-ltb i limit h) refl
 
+-- room for len bytes from at on, by a difference that can't be negative
+pub leb-less : (at len n : ℕ) → at ≤ n → leb len (n - at) ≡ leb (at + len) n
+leb-less at len n h = go (decLe (at + len) n)
+  where
+    go : Dec (at + len ≤ n) → leb len (n - at) ≡ leb (at + len) n
+    go (yes p) = le-leb len (n - at) (omega arith) ∙ sym (le-leb (at + len) n p)
+    go (no p) = lt-leb len (n - at) (omega arith) ∙ sym (lt-leb (at + len) n (omega arith))
+
+pub leb-past : (at len n : ℕ) → n < at → leb (at + len) n ≡ false
+leb-past at len n h = lt-leb (at + len) n (omega arith)
+
 -- parts that reach the end
 
 -- whatever stands before the end, from either start past it
@@ -109,17 +122,17 @@ part-rest b start m len p q = take-all m (drop start b) (rw length-drop p) ∙ s
 
 -- the number of bytes that aren't all there: those past the end count 0
 module _ (w : ℕ) (b : List ℕ) (off : ℕ) where
-  pub number-past : length b ≤ off → Number w b off 0
+  pub number-past : length b ≤ off → NumberAt w b off 0
   unfolding num le
   number-past h = record { is = rw (drop-of-length-le b h, take-nil) refl; fits = pow-pos (8 * w) }
 
-  pub number-rest : (r : ℕ) → length b - off ≤ w → Number (length b - off) b off r → Number w b off r
+  pub number-rest : (r : ℕ) → length b - off ≤ w → NumberAt (length b - off) b off r → NumberAt w b off r
   unfolding num
   number-rest r h n = record { is = n .is ∙ ap le (part-rest b off (length b - off) w (omega arith) h); fits = lt-of-lt-of-le (n .fits) (pow-mono (omega arith)) }
 
 -- what a reader of a field answers
 
-pub value-of : (w : ℕ) (b : List ℕ) (off r : ℕ) → Number w b off r → off + w ≤ length b → FieldOf w b off (Value r)
+pub value-of : (w : ℕ) (b : List ℕ) (off r : ℕ) → NumberAt w b off r → off + w ≤ length b → FieldOf w b off (Value r)
 value-of w b off r n h = record { is = ap Value (n .is) ∙ sym (field-there w b off h); fits = λ v e. same v e (n .fits) }
   where
     same : (v : ℕ) → Value r ≡ Value v → r < 2 ^ (8 * w) → v < 2 ^ (8 * w)

@@ -1,8 +1,10 @@
 // Little-endian fields of a part of an image (bytes.rs), the header of an object (obj.rs), and bits.
 ghost use mathlib.Core.Path.{_≡_};
-ghost use Prim.Native.Nat.{_+_, _<_, _≤_};
+ghost use Prim.Native.Nat.{_+_, _%_, _<_, _≤_, min};
+ghost use lib.Dec.{leb};
 ghost use lib.ListN.{length, take, drop};
-ghost use Rattle.fields.specs.Fields.{Number, FieldOf, bitAt};
+ghost use Rattle.fields.specs.contracts.Numbers.{NumberAt, FieldOf};
+ghost use Rattle.fields.specs.Fields.{bit, bitAt};
 ghost use Rattle.fields.specs.Header.{storedChecksum, xidOf, kindOf};
 
 // Offsets in an object's header.
@@ -12,118 +14,132 @@ const XID: usize = 16;
 
 const TYPE: usize = 24;
 
+// A type's low 16 bits.
+const KIND: u64 = 0xffff;
+
+// The widest field.
+const WIDEST: u64 = 8;
+
+pub const BYTE_BITS: u64 = 8;
+
+const NUMBER_BITS: u64 = 64;
+
 // What stands at a place: a number, or nothing where the field isn't wholly inside its bytes.
 pub enum Field {
     Value(u64),
     Absent,
 }
 
-fn wide(x: u8) -> u64
-    ensures { λ r. ⌜ (r ≡ x) × (r < 256) ⌝ }
+pub fn least(one: u64, other: u64) -> u64
+    ensures { λ r. ⌜ r ≡ min one other ⌝ }
 {
-    x as u64
+    if one < other { one } else { other }
 }
 
-// The number in w bytes that lie inside, lowest first. Where w is a constant, compilers make one load of this loop.
-fn inside(s: &[u8], at: usize, w: usize) -> u64
-    requires { ⌜ (w ≤ 8) × (at + w ≤ length (now s)) ⌝ }
-    ensures { λ r. ⌜ Number w (now (s .entry)) at r ⌝ }
+pub fn wide(byte: u8) -> u64
+    ensures { λ r. ⌜ (r ≡ byte) × (r < 256) ⌝ }
+{
+    byte as u64
+}
+
+// Whether the width bytes from at on lie inside len bytes: their end could wrap.
+pub fn fits(len: u64, at: u64, width: u64) -> bool
+    ensures { λ r. ⌜ r ≡ leb (at + width) len ⌝ }
+{
+    if len < at {
+        return false;
+    }
+    width <= len - at
+}
+
+// The number in width bytes that lie inside, lowest first. Where width is a constant, compilers make one load of this loop.
+fn inside(bytes: &[u8], at: usize, width: usize) -> u64
+    requires { ⌜ (width ≤ 8) × (at + width ≤ length (now bytes)) ⌝ }
+    ensures { λ r. ⌜ NumberAt width (now (bytes .entry)) at r ⌝ }
 {
     let mut v: u64 = 0;
     let mut k = 0;
-    while k < w {
-        v = v + (wide(s[at + k]) << (8 * k));
+    while k < width {
+        v = v + (wide(bytes[at + k]) << (8 * k));
         k += 1;
     }
     v
 }
 
-// The number in the w bytes from at on; bytes past the end count 0.
-pub fn number(s: &[u8], at: usize, w: usize) -> u64
-    requires { ⌜ w ≤ 8 ⌝ }
-    ensures { λ r. ⌜ Number w (now (s .entry)) at r ⌝ }
+// The number in so many bytes from at on, of which there are at most eight; bytes past the end count 0.
+pub fn number(bytes: &[u8], at: usize, width: usize) -> u64
+    ensures { λ r. ⌜ NumberAt (min width 8) (now (bytes .entry)) at r ⌝ }
 {
-    let n = s.len();
+    let n = bytes.len();
     if n <= at {
         return 0;
     }
     let left = n - at;
-    if left < w {
-        return inside(s, at, left);
+    let most = least(width as u64, WIDEST) as usize;
+    if left < most {
+        return inside(bytes, at, left);
     }
-    inside(s, at, w)
+    inside(bytes, at, most)
 }
 
-pub fn u16_of(s: &[u8], at: usize) -> u64
-    ensures { λ r. ⌜ Number 2 (now (s .entry)) at r ⌝ }
+pub fn u16_of(bytes: &[u8], at: usize) -> u64
+    ensures { λ r. ⌜ NumberAt 2 (now (bytes .entry)) at r ⌝ }
 {
-    number(s, at, 2)
+    number(bytes, at, 2)
 }
 
-pub fn u32_of(s: &[u8], at: usize) -> u64
-    ensures { λ r. ⌜ Number 4 (now (s .entry)) at r ⌝ }
+pub fn u32_of(bytes: &[u8], at: usize) -> u64
+    ensures { λ r. ⌜ NumberAt 4 (now (bytes .entry)) at r ⌝ }
 {
-    number(s, at, 4)
+    number(bytes, at, 4)
 }
 
-pub fn u64_of(s: &[u8], at: usize) -> u64
-    ensures { λ r. ⌜ Number 8 (now (s .entry)) at r ⌝ }
+pub fn u64_of(bytes: &[u8], at: usize) -> u64
+    ensures { λ r. ⌜ NumberAt 8 (now (bytes .entry)) at r ⌝ }
 {
-    number(s, at, 8)
+    number(bytes, at, 8)
 }
 
-// The field of w bytes from at on.
-fn field_at(s: &[u8], at: usize, w: usize) -> Field
-    requires { ⌜ w ≤ 8 ⌝ }
-    ensures { λ r. ⌜ FieldOf w (now (s .entry)) at r ⌝ }
+// The field of width bytes from at on.
+fn field_at(bytes: &[u8], at: usize, width: usize) -> Field
+    requires { ⌜ width ≤ 8 ⌝ }
+    ensures { λ r. ⌜ FieldOf width (now (bytes .entry)) at r ⌝ }
 {
-    let n = s.len();
-    if w <= n {
-        if at <= n - w {
-            return Field::Value(inside(s, at, w));
+    let n = bytes.len();
+    if width <= n {
+        if at <= n - width {
+            return Field::Value(inside(bytes, at, width));
         }
     }
     Field::Absent
 }
 
-pub fn u16_at(s: &[u8], at: usize) -> Field
-    ensures { λ r. ⌜ FieldOf 2 (now (s .entry)) at r ⌝ }
+fn u64_at(bytes: &[u8], at: usize) -> Field
+    ensures { λ r. ⌜ FieldOf 8 (now (bytes .entry)) at r ⌝ }
 {
-    field_at(s, at, 2)
+    field_at(bytes, at, 8)
 }
 
-pub fn u32_at(s: &[u8], at: usize) -> Field
-    ensures { λ r. ⌜ FieldOf 4 (now (s .entry)) at r ⌝ }
+// The part from start on, len bytes long; shorter where the bytes end before.
+pub fn part_of(bytes: &[u8], start: usize, len: usize) -> &[u8]
+    ensures { λ r. ⌜ now r ≡ take len (drop start (now (bytes .entry))) ⌝ }
 {
-    field_at(s, at, 4)
-}
-
-pub fn u64_at(s: &[u8], at: usize) -> Field
-    ensures { λ r. ⌜ FieldOf 8 (now (s .entry)) at r ⌝ }
-{
-    field_at(s, at, 8)
-}
-
-// The part of s from start on, len bytes long; shorter where s ends before.
-pub fn part_of(s: &[u8], start: usize, len: usize) -> &[u8]
-    ensures { λ r. ⌜ now r ≡ take len (drop start (now (s .entry))) ⌝ }
-{
-    let n = s.len();
+    let n = bytes.len();
     if n <= start {
-        return &s[n..n];
+        return &bytes[n..n];
     }
     if n - start <= len {
-        return &s[start..n];
+        return &bytes[start..n];
     }
     let end = start + len;
-    &s[start..end]
+    &bytes[start..end]
 }
 
-// The field of eight bytes from at on in a part of s: in a key, or a value, cut from the middle of its node.
-pub fn u64_in(s: &[u8], start: usize, len: usize, at: usize) -> Field
-    ensures { λ r. ⌜ FieldOf 8 (take len (drop start (now (s .entry)))) at r ⌝ }
+// The field of eight bytes from at on in a part: in a key, or a value, cut from the middle of its node.
+pub fn u64_in(bytes: &[u8], start: usize, len: usize, at: usize) -> Field
+    ensures { λ r. ⌜ FieldOf 8 (take len (drop start (now (bytes .entry)))) at r ⌝ }
 {
-    let cut = part_of(s, start, len);
+    let cut = part_of(bytes, start, len);
     u64_at(cut, at)
 }
 
@@ -142,18 +158,31 @@ pub fn xid(object: &[u8]) -> u64
 pub fn kind(object: &[u8]) -> u64
     ensures { λ r. ⌜ r ≡ kindOf (now (object .entry)) ⌝ }
 {
-    u32_of(object, TYPE) % 65536
+    u32_of(object, TYPE) & KIND
 }
 
-// Bit i of a bitmap, the lowest bit of a byte first; bits past the end are 0.
-pub fn bit_at(bitmap: &[u8], i: u64) -> bool
-    ensures { λ r. ⌜ r ≡ bitAt (now (bitmap .entry)) i ⌝ }
+// A bit of a number, the lowest at place 0.
+pub fn has_bit(number: u64, place: u64) -> bool
+    ensures { λ r. ⌜ r ≡ bit (place % 64) number ⌝ }
 {
-    let j = (i / 8) as usize;
+    number >> (place % NUMBER_BITS) & 1 == 1
+}
+
+// A bit of a byte of a bitmap, the lowest at place 0.
+pub fn bit_of(byte: u8, place: u64) -> bool
+    ensures { λ r. ⌜ r ≡ bit (place % 8) byte ⌝ }
+{
+    let shift = (place % BYTE_BITS) as u8;
+    byte >> shift & 1 == 1
+}
+
+// A bit of a bitmap, the lowest bit of a byte first; bits past the end are 0.
+pub fn bit_at(bitmap: &[u8], place: u64) -> bool
+    ensures { λ r. ⌜ r ≡ bitAt (now (bitmap .entry)) place ⌝ }
+{
+    let j = (place / BYTE_BITS) as usize;
     if bitmap.len() <= j {
         return false;
     }
-    let k = (i % 8) as u8;
-    let b = bitmap[j];
-    b >> k & 1 == 1
+    bit_of(bitmap[j], place)
 }

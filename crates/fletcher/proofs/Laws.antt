@@ -12,7 +12,7 @@ use lib.Seq.{drop-cons, take-all, take-append-add, drop-drop}
 use borrow.Author.Tests.{le-leb, lt-leb, eq-eqb, ne-eqb}
 use Rattle.fields.specs.Header.{storedChecksum}
 use Rattle.fletcher.specs.Fletcher.{M, word, low, seal, fletcher, checksum, verifies}
-use Rattle.fletcher.specs.Pieces.{words, wordAt, plusWord, Reduced, Added, Plus}
+use Rattle.fletcher.specs.contracts.Pieces.{words, wordAt, plusWord, Reduced, Added, Plus}
 use Rattle.fletcher.specs.declared.Sums.{Sums}
 
 cong : (m a a′ b b′ : ℕ) → a % m ≡ a′ % m → b % m ≡ b′ % m → (a + b) % m ≡ (a′ + b′) % m

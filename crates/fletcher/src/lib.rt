@@ -1,10 +1,11 @@
 // Fletcher-64 over 32-bit little-endian words, modulo 2^32 - 1 (checksum.rs).
+use fields::wide;
 ghost use mathlib.Core.List.{[], _++_};
 ghost use mathlib.Core.Path.{_≡_};
 ghost use Prim.Native.Nat.{_+_, _%_, _≤_, _<_, _^_};
 ghost use lib.ListN.{length};
 ghost use Rattle.fletcher.specs.Fletcher.{seal as sealOf, checksum as checksumOf, verifies};
-ghost use Rattle.fletcher.specs.Pieces.{wordAt, Reduced, Added, Plus, Halves};
+ghost use Rattle.fletcher.specs.contracts.Pieces.{wordAt, Reduced, Added, Plus, Halves};
 
 const M: u64 = 4294967295;
 
@@ -12,12 +13,6 @@ const M: u64 = 4294967295;
 pub struct Sums {
     pub s: u64,
     pub t: u64,
-}
-
-fn wide(x: u8) -> u64
-    ensures { λ r. ⌜ (r ≡ x) × (r < 256) ⌝ }
-{
-    x as u64
 }
 
 fn word_at(bytes: &[u8], at: usize) -> u64
@@ -124,7 +119,7 @@ pub fn seal(sums: Sums) -> u64
     high * 4294967296 + low
 }
 
-pub fn checksum(object: &[u8]) -> u64
+fn checksum(object: &[u8]) -> u64
     ensures { λ r. ⌜ r ≡ checksumOf (now (object .entry)) ⌝ }
 {
     let none = Sums { s: 0, t: 0 };

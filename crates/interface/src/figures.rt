@@ -36,17 +36,17 @@ fn ending_number(ending: Ending) -> u64
     ensures { λ r. ⌜ r ≡ endingNumber ending ⌝ }
 {
     match ending {
-        Ending::Reported => 0,
+        Ending::Done => 0,
         Ending::Refused(r) => number_of(r) as u64,
     }
 }
 
 // Past the end nothing changes.
-fn put(figures: &mut [u64], at: usize, x: u64)
-    ensures { λ r. ⌜ now (figures .exit) ≡ set (now (figures .entry)) at x ⌝ }
+fn put(figures: &mut [u64], at: usize, figure: u64)
+    ensures { λ r. ⌜ now (figures .exit) ≡ set (now (figures .entry)) at figure ⌝ }
 {
     if at < figures.len() {
-        figures[at] = x;
+        figures[at] = figure;
     }
 }
 
@@ -103,7 +103,7 @@ fn put_firsts(figures: &mut [u64], at: usize, lost: [Lost; KINDS])
 }
 
 // Writes the numbers: as many of them as the array has places.
-pub fn write_figures(answer: Answer, figures: &mut [u64])
+pub(crate) fn write_figures(answer: Answer, figures: &mut [u64])
     ensures { λ r. ⌜ now (figures .exit) ≡ written answer (now (figures .entry)) ⌝ }
 {
     let ending = answer.ending;

@@ -16,7 +16,7 @@ use Rattle.fields.specs.Choice.{pick}
 use Rattle.io.specs.Digits.{digits, Fewest}
 use Rattle.report.specs.declared.Lost.{Lost}
 use Rattle.totals.specs.Totals.{lostIn}
-use Rattle.totals.specs.Counting.{noLost}
+use Rattle.totals.specs.contracts.Counting.{noLost}
 use Rattle.listing.specs.Text.{Line, lineTo, put, placesFrom, mostDigits, numeral}
 
 module _ (text line : List ℕ) (at : ℕ) where

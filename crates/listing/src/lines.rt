@@ -8,26 +8,27 @@ use crate::text::put_figure;
 use crate::text::put_text;
 ghost use mathlib.Core.Path.{_≡_};
 ghost use mathlib.Core.List.{[], _∷_};
+ghost use Rattle.blocks.specs.contracts.Images.{bytes};
 ghost use Rattle.listing.specs.Text.{lineTo, putAll, decimal};
 ghost use Rattle.listing.specs.Lines.{titleLine, poolLine, problemLine, bitmapsLine, overlapsLine, overlapLine, lostLine, lostKindLine, leakedLine, resultLine, refusedLine};
 
 const CONSISTENT: u8 = 1;
 
 // A line with one figure.
-fn figure_line(line: &mut [u8], before: &[u8], n: u64, after: &[u8]) -> usize
-    ensures { λ r. ⌜ lineTo (now (line .exit)) r ≡ putAll (now (before .entry) ∷ decimal n ∷ now (after .entry) ∷ []) (lineTo (now (line .entry)) 0) ⌝ }
+fn figure_line(line: &mut [u8], before: &[u8], figure: u64, after: &[u8]) -> usize
+    ensures { λ r. ⌜ lineTo (now (line .exit)) r ≡ putAll (bytes before ∷ decimal figure ∷ bytes after ∷ []) (lineTo (bytes line) 0) ⌝ }
 {
-    let end = put_figure(line, 0, before, n);
+    let end = put_figure(line, 0, before, figure);
     put_text(line, end, after)
 }
 
-pub fn title_line(line: &mut [u8], xid: u64) -> usize
+pub(crate) fn title_line(line: &mut [u8], xid: u64) -> usize
     ensures { λ r. ⌜ lineTo (now (line .exit)) r ≡ putAll (titleLine xid) (lineTo (now (line .entry)) 0) ⌝ }
 {
     figure_line(line, b"space check  stdin  xid ", xid, b"\n")
 }
 
-pub fn pool_line(line: &mut [u8], used: u64, unused: u64, problems: u64) -> usize
+pub(crate) fn pool_line(line: &mut [u8], used: u64, unused: u64, problems: u64) -> usize
     ensures { λ r. ⌜ lineTo (now (line .exit)) r ≡ putAll (poolLine used unused problems) (lineTo (now (line .entry)) 0) ⌝ }
 {
     let end = put_figure(line, 0, b"internal pool  ", used);
@@ -36,7 +37,7 @@ pub fn pool_line(line: &mut [u8], used: u64, unused: u64, problems: u64) -> usiz
     put_text(line, end, b" problems\n")
 }
 
-pub fn problem_line(line: &mut [u8], problem: u8, block: u64) -> usize
+pub(crate) fn problem_line(line: &mut [u8], problem: u8, block: u64) -> usize
     ensures { λ r. ⌜ lineTo (now (line .exit)) r ≡ putAll (problemLine problem block) (lineTo (now (line .entry)) 0) ⌝ }
 {
     let end = put_text(line, 0, b"  ");
@@ -46,7 +47,7 @@ pub fn problem_line(line: &mut [u8], problem: u8, block: u64) -> usize
     put_text(line, end, b"\n")
 }
 
-pub fn bitmaps_line(line: &mut [u8], free: u64, wrong_chunks: u64, device_free: u64) -> usize
+pub(crate) fn bitmaps_line(line: &mut [u8], free: u64, wrong_chunks: u64, device_free: u64) -> usize
     ensures { λ r. ⌜ lineTo (now (line .exit)) r ≡ putAll (bitmapsLine free «wrong_chunks» «device_free») (lineTo (now (line .entry)) 0) ⌝ }
 {
     let end = put_figure(line, 0, b"bitmaps    ", free);
@@ -64,7 +65,7 @@ pub fn bitmaps_line(line: &mut [u8], free: u64, wrong_chunks: u64, device_free: 
     }
 }
 
-pub fn overlaps_line(line: &mut [u8], overlaps: u64) -> usize
+pub(crate) fn overlaps_line(line: &mut [u8], overlaps: u64) -> usize
     ensures { λ r. ⌜ lineTo (now (line .exit)) r ≡ putAll (overlapsLine overlaps) (lineTo (now (line .entry)) 0) ⌝ }
 {
     figure_line(
@@ -75,7 +76,7 @@ pub fn overlaps_line(line: &mut [u8], overlaps: u64) -> usize
     )
 }
 
-pub fn overlap_line(line: &mut [u8], block: u64, owner: u8, claimant: u8) -> usize
+pub(crate) fn overlap_line(line: &mut [u8], block: u64, owner: u8, claimant: u8) -> usize
     ensures { λ r. ⌜ lineTo (now (line .exit)) r ≡ putAll (overlapLine block owner claimant) (lineTo (now (line .entry)) 0) ⌝ }
 {
     let end = put_text(line, 0, b"  block ");
@@ -87,13 +88,13 @@ pub fn overlap_line(line: &mut [u8], block: u64, owner: u8, claimant: u8) -> usi
     put_text(line, end, b"\n")
 }
 
-pub fn lost_line(line: &mut [u8], lost: u64) -> usize
+pub(crate) fn lost_line(line: &mut [u8], lost: u64) -> usize
     ensures { λ r. ⌜ lineTo (now (line .exit)) r ≡ putAll (lostLine lost) (lineTo (now (line .entry)) 0) ⌝ }
 {
     figure_line(line, b"in use but marked free: ", lost, b" blocks\n")
 }
 
-pub fn lost_kind_line(line: &mut [u8], kind: u8, count: u64, first: u64) -> usize
+pub(crate) fn lost_kind_line(line: &mut [u8], kind: u8, count: u64, first: u64) -> usize
     ensures { λ r. ⌜ lineTo (now (line .exit)) r ≡ putAll (lostKindLine kind count first) (lineTo (now (line .entry)) 0) ⌝ }
 {
     let end = put_text(line, 0, b"  ");
@@ -104,7 +105,7 @@ pub fn lost_kind_line(line: &mut [u8], kind: u8, count: u64, first: u64) -> usiz
     put_text(line, end, b")\n")
 }
 
-pub fn leaked_line(line: &mut [u8], leaked: u64) -> usize
+pub(crate) fn leaked_line(line: &mut [u8], leaked: u64) -> usize
     ensures { λ r. ⌜ lineTo (now (line .exit)) r ≡ putAll (leakedLine leaked) (lineTo (now (line .entry)) 0) ⌝ }
 {
     figure_line(
@@ -115,7 +116,7 @@ pub fn leaked_line(line: &mut [u8], leaked: u64) -> usize
     )
 }
 
-pub fn result_line(line: &mut [u8], verdict: u8) -> usize
+pub(crate) fn result_line(line: &mut [u8], verdict: u8) -> usize
     ensures { λ r. ⌜ lineTo (now (line .exit)) r ≡ putAll (resultLine verdict) (lineTo (now (line .entry)) 0) ⌝ }
 {
     let end = put_text(line, 0, b"result     ");
@@ -130,7 +131,7 @@ pub fn result_line(line: &mut [u8], verdict: u8) -> usize
     }
 }
 
-pub fn refused_line(line: &mut [u8], number: u8) -> usize
+pub(crate) fn refused_line(line: &mut [u8], number: u8) -> usize
     ensures { λ r. ⌜ lineTo (now (line .exit)) r ≡ putAll (refusedLine number) (lineTo (now (line .entry)) 0) ⌝ }
 {
     figure_line(line, b"refused ", number as u64, b"\n")

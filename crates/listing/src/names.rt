@@ -2,10 +2,9 @@
 use crate::text::put_text;
 ghost use mathlib.Core.Path.{_≡_};
 ghost use Rattle.listing.specs.Text.{lineTo, put};
-ghost use Rattle.listing.specs.Lines.{kindName, problemBlock};
-ghost use Rattle.listing.specs.Lines.{problem as Lines·problem};
+ghost use Rattle.listing.specs.Lines.{kindName, problemBlock, problem as Lines·problem};
 
-pub fn put_kind(line: &mut [u8], at: usize, kind: u8) -> usize
+pub(crate) fn put_kind(line: &mut [u8], at: usize, kind: u8) -> usize
     ensures { λ r. ⌜ lineTo (now (line .exit)) r ≡ put (kindName kind) (lineTo (now (line .entry)) at) ⌝ }
 {
     match kind {
@@ -23,7 +22,7 @@ pub fn put_kind(line: &mut [u8], at: usize, kind: u8) -> usize
 }
 
 // What the block of a problem is.
-pub fn put_problem_block(line: &mut [u8], at: usize, problem: u8) -> usize
+pub(crate) fn put_problem_block(line: &mut [u8], at: usize, problem: u8) -> usize
     ensures { λ r. ⌜ lineTo (now (line .exit)) r ≡ put (problemBlock problem) (lineTo (now (line .entry)) at) ⌝ }
 {
     match problem {
@@ -37,7 +36,7 @@ pub fn put_problem_block(line: &mut [u8], at: usize, problem: u8) -> usize
 }
 
 // What is wrong with it.
-pub fn put_problem(line: &mut [u8], at: usize, problem: u8) -> usize
+pub(crate) fn put_problem(line: &mut [u8], at: usize, problem: u8) -> usize
     ensures { λ r. ⌜ lineTo (now (line .exit)) r ≡ put (Lines·problem problem) (lineTo (now (line .entry)) at) ⌝ }
 {
     match problem {

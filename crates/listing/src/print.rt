@@ -134,11 +134,11 @@ fn print_refusal(line: &mut [u8], number: u8) {
     print_line(line, length);
 }
 
-pub fn print_answer(answer: Answer) {
+pub(crate) fn print_answer(answer: Answer) {
     let mut line = [0u8; LINE];
     let ending = answer.ending;
     match ending {
-        Ending::Reported => {
+        Ending::Done => {
             let report = answer.report;
             print_report(&mut line, report);
         }

@@ -5,7 +5,7 @@ ghost use mathlib.Core.List.{[], _∷_};
 ghost use Rattle.listing.specs.Text.{lineTo, put, putAll, decimal, hex};
 ghost use Rattle.listing.specs.Lines.{block as Lines·block};
 
-pub fn put_text(line: &mut [u8], at: usize, text: &[u8]) -> usize
+pub(crate) fn put_text(line: &mut [u8], at: usize, text: &[u8]) -> usize
     ensures { λ r. ⌜ lineTo (now (line .exit)) r ≡ put (now (text .entry)) (lineTo (now (line .entry)) at) ⌝ }
 {
     let end = line.len();
@@ -23,24 +23,24 @@ pub fn put_text(line: &mut [u8], at: usize, text: &[u8]) -> usize
     at + text.len()
 }
 
-pub fn put_decimal(line: &mut [u8], at: usize, n: u64) -> usize
-    ensures { λ r. ⌜ lineTo (now (line .exit)) r ≡ put (decimal n) (lineTo (now (line .entry)) at) ⌝ }
+pub(crate) fn put_decimal(line: &mut [u8], at: usize, figure: u64) -> usize
+    ensures { λ r. ⌜ lineTo (now (line .exit)) r ≡ put (decimal figure) (lineTo (now (line .entry)) at) ⌝ }
 {
     let mut digits = [0u8; 20];
-    let count = io::decimal(n, &mut digits);
+    let count = io::decimal(figure, &mut digits);
     put_text(line, at, &digits[..count])
 }
 
-pub fn put_hex(line: &mut [u8], at: usize, n: u64) -> usize
-    ensures { λ r. ⌜ lineTo (now (line .exit)) r ≡ put (hex n) (lineTo (now (line .entry)) at) ⌝ }
+pub(crate) fn put_hex(line: &mut [u8], at: usize, figure: u64) -> usize
+    ensures { λ r. ⌜ lineTo (now (line .exit)) r ≡ put (hex figure) (lineTo (now (line .entry)) at) ⌝ }
 {
     let mut digits = [0u8; 16];
-    let count = io::hex(n, 1, &mut digits);
+    let count = io::hex(figure, 1, &mut digits);
     put_text(line, at, &digits[..count])
 }
 
 // A block's number.
-pub fn put_block(line: &mut [u8], at: usize, block: u64) -> usize
+pub(crate) fn put_block(line: &mut [u8], at: usize, block: u64) -> usize
     ensures { λ r. ⌜ lineTo (now (line .exit)) r ≡ putAll (Lines·block block) (lineTo (now (line .entry)) at) ⌝ }
 {
     let digits = put_text(line, at, b"0x");
@@ -48,9 +48,9 @@ pub fn put_block(line: &mut [u8], at: usize, block: u64) -> usize
 }
 
 // A text, and a figure after it.
-pub fn put_figure(line: &mut [u8], at: usize, text: &[u8], n: u64) -> usize
-    ensures { λ r. ⌜ lineTo (now (line .exit)) r ≡ putAll (now (text .entry) ∷ decimal n ∷ []) (lineTo (now (line .entry)) at) ⌝ }
+pub(crate) fn put_figure(line: &mut [u8], at: usize, text: &[u8], figure: u64) -> usize
+    ensures { λ r. ⌜ lineTo (now (line .exit)) r ≡ putAll (now (text .entry) ∷ decimal figure ∷ []) (lineTo (now (line .entry)) at) ⌝ }
 {
     let digits = put_text(line, at, text);
-    put_decimal(line, digits, n)
+    put_decimal(line, digits, figure)
 }

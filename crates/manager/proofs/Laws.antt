@@ -2,7 +2,7 @@
 use mathlib.Core.Path.{_≡_, refl, sym, ap, _∙_}
 use mathlib.Core.Bool.{true}
 use mathlib.Core.List.{List, []}
-use Prim.Native.Nat.{ℕ, zero, suc, _+_, _-_, _*_, _/_, _%_, _^_, _≤_, _<_}
+use Prim.Native.Nat.{ℕ, zero, suc, _+_, _-_, _*_, _/_, _%_, _^_, _≤_, _<_, min}
 use native.Mathlib.Omega.{arith}
 use native.Mathlib.Nat.{lt-of-lt-of-le, mul-suc, mod-lt, add-mod, add-zero, mul-add-div-right, mul-add-mod-self-right, div-add-mod', div-eq-of-lt, mod-eq-of-lt}
 use lib.Dec.{leb}
@@ -10,9 +10,11 @@ use lib.ListN.{length, take, drop, getD, length-take, length-drop, List·getD-eq
 use lib.Seq.{take-nil, getD-take, getD-drop, ext-getD}
 use lib.Pow.{pow-add, pow-mono}
 use borrow.Author.Tests.{leb-true}
-use Rattle.fields.specs.Fields.{Number, le, num}
+use Rattle.fields.specs.contracts.Numbers.{NumberAt}
+use Rattle.fields.specs.Fields.{le, num}
 use Rattle.blocks.specs.Blocks.{blockOf}
-use Rattle.manager.specs.Place.{ringLength, ringIndex, addressIn, byteIn, bytesFrom, placed, bytesOf}
+use Rattle.manager.specs.Manager.{ringLength}
+use Rattle.manager.specs.contracts.Place.{ringIndex, addressIn, byteIn, bytesFrom, placed, bytesOf}
 use Rattle.manager.specs.declared.Manager.{Manager}
 
 -- the place in the ring, each part reduced first
@@ -23,14 +25,14 @@ module _ (m : Manager) (i ring : ℕ) (e : ring ≡ ringLength (m .blocks)) wher
       some : 0 < ring
       some = omega arith
 
-  pub ring-below : m .at < m .base → i % ring ≡ ringIndex m i
+  pub ring-below : m .at .0 < m .base → i % ring ≡ ringIndex m i
   ring-below h = rw (none, e) (ap (λ (n : ℕ). n % ringLength (m .blocks)) (omega arith))
     where
-      none : m .at - m .base ≡ 0
+      none : m .at .0 - m .base ≡ 0
       none = omega arith
 
-  pub ring-sum : ((m .at - m .base) % ring + i % ring) % ring ≡ ringIndex m i
-  ring-sum = sym (add-mod (m .at - m .base) i ring) ∙ rw e refl
+  pub ring-sum : ((m .at .0 - m .base) % ring + i % ring) % ring ≡ ringIndex m i
+  ring-sum = sym (add-mod (m .at .0 - m .base) i ring) ∙ rw e refl
 
 -- as many bytes as the manager has, each where its block is
 module _ (f : ℕ → List ℕ) (size : ℕ) (m : Manager) where
@@ -113,13 +115,16 @@ block-most : (image : List ℕ) (size n : ℕ) → length (blockOf image size n)
 unfolding blockOf
 block-most image size n = simp length-take (omega arith)
 
--- a field within one block is the block's own
-pub number-in : (image : List ℕ) (size : ℕ) (m : Manager) (off w index at : ℕ) (b : List ℕ) (r : ℕ) → index ≡ off / size → at ≡ off % size
+-- a field of at most eight bytes within one block is the block's own
+pub number-in : (image : List ℕ) (size : ℕ) (m : Manager) (off w index at : ℕ) (b : List ℕ) (r : ℕ) → w ≤ 8 → index ≡ off / size → at ≡ off % size
     → b ≡ blockOf image size (addressIn m index) → leb (off + w) (m .size) ≡ true → leb (at + w) (length b) ≡ true
-    → Number w b at r → Number w (bytesOf image size m) off r
+    → NumberAt (min w 8) b at r → NumberAt w (bytesOf image size m) off r
 unfolding num
-number-in image size m off w index at b r p q e inside room n = record { is = n .is ∙ rw q (ap le same); fits = n .fits }
+number-in image size m off w index at b r few p q e inside room found = record { is = n .is ∙ rw q (ap le same); fits = n .fits }
   where
+    n : NumberAt w b at r
+    n = let all : min w 8 ≡ w = omega arith in rw all at found
+
     most : length b ≤ size
     most = rw e (block-most image size (addressIn m index))
 

@@ -6,19 +6,21 @@ use native.Mathlib.Decide.{decLe}
 use native.Mathlib.Nat.{mul-suc, mul-zero, mul-comm, div-lt-iff-lt-mul, le-div-iff-mul-le}
 use native.Mathlib.Omega.{arith}
 use lib.ListN.{length, getD, drop-of-length-le}
+use lib.Bits.{bitAnd, and-mask}
 use lib.Pow.{pow-pos}
 use lib.Seq.{take-nil}
 use borrow.Author.Tests.{le-leb, lt-leb}
-use Rattle.fields.specs.Fields.{Number, num, le}
+use Rattle.fields.specs.contracts.Numbers.{NumberAt}
+use Rattle.fields.specs.Fields.{num, le}
 use Rattle.fields.proofs.Laws.{field-there, field-absent}
 use Rattle.blocks.specs.Reads.{run, given, refused}
 use Rattle.blocks.specs.Blocks.{field, present}
-use Rattle.blocks.specs.declared.Seen.{Seen}
+use Rattle.blocks.specs.declared.Presence.{Presence}
 use Rattle.blocks.specs.declared.Refusal.the-variants.{OutsideBytes}
 use Rattle.blocks.proofs.Laws.{then-given, then-refused, need-true, need-false}
-use Rattle.manager.specs.Manager.{listFrom}
-use Rattle.manager.specs.Chunks.{chunkAt, chunksFrom, low20}
-use Rattle.manager.specs.Lists.{values, records, FieldsSeen, ListSeen, EntryRead}
+use Rattle.manager.specs.Manager.{listFrom, chunkInfosAt}
+use Rattle.manager.specs.Chunks.{chunkAt, chunksFrom}
+use Rattle.manager.specs.contracts.Lists.{values, records, FieldsSeen, ListSeen, InfoRead}
 use Rattle.manager.specs.declared.Chunk.{Chunk}
 
 -- past the end all bytes count 0
@@ -79,14 +81,14 @@ module _ (w at i : ℕ) (some : 0 < w) (fits : at < 2 ^ 64) where
   pub entry-past : (sm : List ℕ) (size : ℕ) → length sm ≡ size → size < 2 ^ 64 → (2 ^ 64 - 1 - at) / w < i → num w sm (at + w * i) ≡ 0
   entry-past sm size e k h = num-past w sm (at + w * i) (omega (arith, div-lt-iff-lt-mul some .0 h, mul-comm w i))
 
--- a count and an offset as they were read
-pub list-told : (w : ℕ) (sm : List ℕ) (n at count start : ℕ) (r : Seen) → n ≡ num 4 sm count → at ≡ num 4 sm start → FieldsSeen w sm n at r → ListSeen w count start sm r
-list-told w sm n at count start r p q h = rw (← p, ← q) h
+-- a count and a start as they were read
+pub list-read : (w : ℕ) (sm : List ℕ) (n at count start : ℕ) (r : Presence) → n ≡ num 4 sm count → at ≡ num 4 sm start → FieldsSeen w sm n at r → ListSeen w count start sm r
+list-read w sm n at count start r p q h = rw (← p, ← q) h
 
-pub entry-told : (w : ℕ) (sm : List ℕ) (at start i r : ℕ) → at ≡ num 4 sm start → Number w sm (at + w * i) r → EntryRead w start sm i r
-entry-told w sm at start i r p h = rw (← p) h
+pub info-read : (sm : List ℕ) (at i r : ℕ) → at ≡ chunkInfosAt sm → NumberAt 8 sm (at + 8 * i) r → InfoRead sm i r
+info-read sm at i r p h = rw (← p) h
 
-pub entry-none : (w : ℕ) (sm : List ℕ) (off : ℕ) → num w sm off ≡ 0 → Number w sm off 0
+pub entry-none : (w : ℕ) (sm : List ℕ) (off : ℕ) → num w sm off ≡ 0 → NumberAt w sm off 0
 entry-none w sm off e = record { is = sym e; fits = pow-pos (8 * w) }
 
 -- what a list holds
@@ -133,11 +135,11 @@ records-at b (suc n) e (suc i) none h = records-at b n (e + 32) i none (omega ar
 -- a record from its fields, and one past the end
 module _ (b : List ℕ) (e : ℕ) where
   pub chunk-read : (s k n m : ℕ) → s ≡ num 8 b (e + 8) → k ≡ num 4 b (e + 16) → n ≡ num 4 b (e + 20) → m ≡ num 8 b (e + 24)
-      → record { start = s; blocks = low20 k; free = low20 n; bitmap = m } ≡ chunkAt b e
+      → record { start = s; blocks = bitAnd k (2 ^ 20 - 1); free = bitAnd n (2 ^ 20 - 1); bitmap = record { 0 = m } } ≡ chunkAt b e
   unfolding chunkAt
-  chunk-read s k n m p q r t = rw (p, q, r, t) refl
+  chunk-read s k n m p q r t = rw (and-mask k 20, and-mask n 20, p, q, r, t) refl
 
-  pub chunk-past : length b ≤ e → record { start = 0; blocks = 0; free = 0; bitmap = 0 } ≡ chunkAt b e
+  pub chunk-past : length b ≤ e → record { start = 0; blocks = 0; free = 0; bitmap = record { 0 = 0 } } ≡ chunkAt b e
   chunk-past h = chunk-read 0 0 0 0 (past 8 8) (past 4 16) (past 4 20) (past 8 24)
     where
       past : (w k : ℕ) → 0 ≡ num w b (e + k)

@@ -4,33 +4,32 @@ use mathlib.Core.Bool.{true, false}
 use mathlib.Core.List.{List, [], _++_}
 use Prim.Native.Nat.{ℕ, zero, suc, _+_, _-_, _*_, _/_, _%_, _^_, _≤_, _<_}
 use native.Mathlib.Decide.{decLt}
-use native.Mathlib.Nat.{sub-zero, add-zero, suc-mul, mul-add-div-right, mul-add-mod-self-right, div-add-mod', div-eq-of-lt, div-eq-of-lt-le, mod-eq-of-lt, mod-lt, mod-mod-of-dvd, dvd-of-mod-eq-zero, lt-div-mul-add, le-div-iff-mul-le, div-mul-le-self, add-mul, one-mul, mul-one, mul-le-mul-left}
+use native.Mathlib.Nat.{sub-zero, suc-mul, div-add-mod', div-eq-of-lt-le, mod-lt, mod-mod-of-dvd, dvd-of-mod-eq-zero, lt-div-mul-add, le-div-iff-mul-le, div-mul-le-self, add-mul, one-mul, mul-one, mul-le-mul-left}
 use native.Mathlib.Numerals.{add-one}
 use native.Mathlib.Omega.{arith}
 use lib.ListN.{length, take, drop, getD, length-append, length-take, length-drop, take-append-drop, drop-of-length-le, List·getD-append}
-use lib.Seq.{getD-append-add, getD-take, getD-drop, drop-drop, ext-getD}
+use lib.Seq.{getD-append-add, getD-take, drop-drop, ext-getD}
 use borrow.Author.Tests.{lt-leb, le-leb, lt-ltb, le-ltb, eq-eqb, ne-eqb}
 use Rattle.fletcher.specs.Fletcher.{fletcher, seal, verifies}
-use Rattle.fletcher.specs.Pieces.{Added}
+use Rattle.fletcher.specs.contracts.Pieces.{Added}
 use Rattle.fletcher.specs.declared.Sums.{Sums}
 use Rattle.fletcher.proofs.Laws.{words-whole}
 use Rattle.blocks.specs.Reads.{Outcome, run, given, refused, _>>=_, need}
-use Rattle.blocks.specs.Blocks.{blockOf, Holds, readRaw, sum}
+use Rattle.blocks.specs.Blocks.{blockOf, readRaw, sum}
+use Rattle.blocks.specs.contracts.Images.{Holds}
 use Rattle.blocks.specs.declared.Container.{Container}
 use Rattle.blocks.specs.declared.Refusal.{Refusal}
 use Rattle.blocks.specs.declared.Refusal.the-variants.{PastContainer, BadChecksum, OutsideBytes, Unmapped, AddressBlocks, Overflow}
-use Rattle.blocks.specs.declared.Seen.{Seen}
-use Rattle.blocks.specs.declared.Seen.the-variants.{There, Refused}
+use Rattle.blocks.specs.declared.Presence.{Presence}
+use Rattle.blocks.specs.declared.Presence.the-variants.{There, Refused}
 use Rattle.blocks.proofs.Laws.{then-given, then-refused, block-length}
-use Rattle.checkpoint.specs.Superblock.{dataBase, dataBlocks, managerId}
-use Rattle.checkpoint.specs.Map.{lookup}
-use Rattle.checkpoint.specs.Checkpoint.{Taken}
+use Rattle.checkpoint.specs.Superblock.{dataBase, dataBlocks}
 use Rattle.checkpoint.specs.declared.Mapping.{Mapping}
 use Rattle.checkpoint.specs.declared.Mapped.{Mapped}
 use Rattle.checkpoint.specs.declared.Mapped.the-variants.{To, Nowhere}
-use Rattle.manager.specs.Manager.{managerFrom, managerAt, managerBy, manager, blocksFor, addressBlockCount}
-use Rattle.manager.specs.Place.{placeOf, addressIn, byteIn, placed, bytesOf}
-use Rattle.manager.specs.Load.{joined, IfThere, BlockGoes, BlocksGo, BlocksSeen, Stands, Piece, accepted}
+use Rattle.manager.specs.Manager.{managerFrom, accepted, managerAt, managerBy, blocksFor, addressBlockCount}
+use Rattle.manager.specs.contracts.Place.{placeOf, addressIn, byteIn, placed, bytesOf}
+use Rattle.manager.specs.contracts.Load.{joined, WhereThere, BlockGoes, BlocksGo, BlocksSeen, Stands, Piece}
 use Rattle.manager.specs.declared.Manager.{Manager}
 use Rattle.manager.proofs.Laws.{placed-length, placed-there, byte-of, piece-is}
 
@@ -59,16 +58,16 @@ module _ (n size : ℕ) (some : 0 < size) where
 -- block i, by the way that its tests go
 
 module _ (f : ℕ → List ℕ) (c : Container) (sb : List ℕ) (mp : Mapping) (i : ℕ) (m : Manager) (e : m ≡ placeOf sb mp) where
-  pub goes-below : m .at < m .base → BlockGoes f c sb mp i (Refused Overflow)
+  pub goes-below : m .at .0 < m .base → BlockGoes f c sb mp i (Refused Overflow)
   unfolding run managerFrom need _>>=_
   goes-below h left found = simp (lt-leb _ _ (rw e at h))
 
-  module _ (h : m .base ≤ m .at) where
-    pub goes-past-sum : 2 ^ 64 ≤ m .at - m .base + i → BlockGoes f c sb mp i (Refused Overflow)
+  module _ (h : m .base ≤ m .at .0) where
+    pub goes-past-sum : 2 ^ 64 ≤ m .at .0 - m .base + i → BlockGoes f c sb mp i (Refused Overflow)
     unfolding run managerFrom sum need _>>=_
     goes-past-sum k left found = simp (le-leb _ _ (rw e at h), le-ltb _ _ (rw e at k))
 
-    module _ (k : m .at - m .base + i < 2 ^ 64) where
+    module _ (k : m .at .0 - m .base + i < 2 ^ 64) where
       pub goes-past-end : 2 ^ 64 ≤ addressIn m i → BlockGoes f c sb mp i (Refused Overflow)
       unfolding run managerFrom sum need _>>=_ addressIn
       goes-past-end l left found = simp (le-leb _ _ (rw e at h), lt-ltb _ _ (rw e at k), le-ltb _ _ (rw e at l))
@@ -83,8 +82,8 @@ module _ (f : ℕ → List ℕ) (c : Container) (sb : List ℕ) (mp : Mapping) (
         goes-there q left found = simp (le-leb _ _ (rw e at h), lt-ltb _ _ (rw e at k), lt-ltb _ _ (rw e at l), lt-ltb _ _ (rw e at q))
 
 -- what is known of a block that is there
-pub if-there : (s : Seen) (P : Type 0) → s ≡ There → IfThere s P → P
-if-there s P e h = rw e at h
+pub where-there : (s : Presence) (P : Type 0) → s ≡ There → WhereThere s P → P
+where-there s P e h = rw e at h
 
 -- n blocks: what is left from block i on gives the whole
 
@@ -100,13 +99,13 @@ module _ (f : ℕ → List ℕ) (c : Container) (sb : List ℕ) (mp : Mapping) (
     more : n - i ≡ suc (n - (i + 1))
     more = omega arith
 
-    pub left-more : (s : Seen) → s ≡ There → BlockGoes f c sb mp i s → Left f c sb mp n (i + 1)
+    pub left-more : (s : Presence) → s ≡ There → BlockGoes f c sb mp i s → Left f c sb mp n (i + 1)
     unfolding joined
     left-more s q goes =
         ap (λ (k : ℕ). run f (managerFrom c sb (mp .address .0) (n - (i + 1)) (i + 1) (joined f (placeOf sb mp) k))) (add-one i)
         ∙ sym ((rw q at goes) (n - (i + 1)) (joined f (placeOf sb mp) i)) ∙ (rw more at left)
 
-    pub left-refused : (s : Seen) (r : Refusal) → s ≡ Refused r → BlockGoes f c sb mp i s → BlocksGo f c sb mp n (Refused r)
+    pub left-refused : (s : Presence) (r : Refusal) → s ≡ Refused r → BlockGoes f c sb mp i s → BlocksGo f c sb mp n (Refused r)
     left-refused s r q goes = sym ((rw q at goes) (n - (i + 1)) (joined f (placeOf sb mp) i)) ∙ (rw more at left)
 
   pub left-done : i ≤ n → n ≤ i → Left f c sb mp n i → BlocksGo f c sb mp n There
@@ -225,15 +224,15 @@ module _ (f : ℕ → List ℕ) (sm : List ℕ) where
 
 -- a place from its fields
 pub place-read : (sb : List ℕ) (mp : Mapping) (base blocks : ℕ) → base ≡ dataBase sb → blocks ≡ dataBlocks sb
-    → record { base = base; blocks = blocks; at = mp .address .0; size = mp .size } ≡ placeOf sb mp
+    → record { base = base; blocks = blocks; at = mp .address; size = mp .size } ≡ placeOf sb mp
 place-read sb mp base blocks p q = rw (p, q) refl
 
 -- a mapping's manager, by what was seen of its blocks
 
-pub stands-there : (image : List ℕ) (c : Container) (m : Manager) (n : ℕ) (s : Seen) → Holds image c → n ≡ blocksFor c (m .size) → BlocksSeen c m n s → s ≡ There → Stands image c m
-stands-there image c m n s holds k blocks q = record { holds = holds; inside = rw k at (if-there s _ q (blocks .inside)) }
+pub stands-there : (image : List ℕ) (c : Container) (m : Manager) (n : ℕ) (s : Presence) → Holds image c → n ≡ blocksFor c (m .size) → BlocksSeen c m n s → s ≡ There → Stands image c m
+stands-there image c m n s holds k blocks q = record { holds = holds; inside = rw k at (where-there s _ q (blocks .inside)) }
 
-module _ (image : List ℕ) (c : Container) (sb : List ℕ) (mp : Mapping) (m : Manager) (n : ℕ) (s : Seen)
+module _ (image : List ℕ) (c : Container) (sb : List ℕ) (mp : Mapping) (m : Manager) (n : ℕ) (s : Presence)
     (e : m ≡ placeOf sb mp) (k : n ≡ blocksFor c (m .size)) (blocks : BlocksSeen c m n s) where
   goes : BlocksGo (blockOf image (c .size)) c sb mp (blocksFor c (mp .size)) s
   goes = rw (k, e) at (blocks .goes (blockOf image (c .size)) sb mp e)
@@ -243,7 +242,7 @@ module _ (image : List ℕ) (c : Container) (sb : List ℕ) (mp : Mapping) (m : 
   load-refused r q = sym (then-refused _ _ _ r (sym (rw q at goes)))
 
   pub load-there : Holds image c → s ≡ There → (o : Outcome (List ℕ)) → o ≡ run (blockOf image (c .size)) (accepted (bytesOf image (c .size) m)) → o ≡ run (blockOf image (c .size)) (managerAt c sb mp)
-  unfolding managerAt accepted
+  unfolding managerAt
   load-there holds q o a =
       let whole : take (mp .size) (joined (blockOf image (c .size)) (placeOf sb mp) (blocksFor c (mp .size))) ≡ bytesOf image (c .size) m = rw e (rw e at (stands-joined image c m (stands-there image c m n s holds k blocks q))) in
       a ∙ ap (λ (l : List ℕ). run (blockOf image (c .size)) (accepted l)) (sym whole) ∙ sym (then-given _ _ _ _ (sym (rw q at goes)))
@@ -258,7 +257,3 @@ module _ (f : ℕ → List ℕ) (c : Container) (sb : List ℕ) (mapped : Mapped
   pub by-nothing : mapped ≡ Nowhere → refused Unmapped ≡ run f (managerBy c sb mapped)
   unfolding run managerBy
   by-nothing e = rw e refl
-
-pub manager-mapped : (f : ℕ → List ℕ) (c : Container) (t : Taken) (mapped : Mapped) → mapped ≡ lookup (managerId (t .sb)) (t .map) → run f (manager c t) ≡ run f (managerBy c (t .sb) mapped)
-unfolding manager
-manager-mapped f c t mapped e = rw e refl

@@ -11,8 +11,6 @@ use Rattle.blocks.specs.declared.Container.{Container}
 use Rattle.blocks.specs.declared.ObjectId.{ObjectId}
 use Rattle.blocks.specs.declared.Refusal.the-variants.{BadChecksum, Unmapped, OutsideBytes, AddressBlocks, Overflow}
 use Rattle.checkpoint.specs.Superblock.{dataBase, dataBlocks, managerId, withoutTopBit}
-use Rattle.checkpoint.specs.Map.{lookup}
-use Rattle.checkpoint.specs.Checkpoint.{Taken}
 use Rattle.checkpoint.specs.declared.Mapping.{Mapping}
 use Rattle.checkpoint.specs.declared.Mapped.{Mapped}
 use Rattle.checkpoint.specs.declared.Mapped.the-variants.{To, Nowhere}
@@ -57,8 +55,11 @@ abbrev pub mainQueue : List ℕ → ObjectId
 mainQueue sm = record { 0 = num 8 sm 248 }
 
 -- "ring length (the taken superblock's; top bit dropped, 0 counts as 1)"
+abbrev pub ringLength : ℕ → ℕ
+ringLength stored = max (withoutTopBit stored) 1
+
 abbrev pub dataRing : List ℕ → ℕ
-dataRing sb = max (withoutTopBit (dataBlocks sb)) 1
+dataRing sb = ringLength (dataBlocks sb)
 
 -- "its block i at data base + (mapped address − data base + i) mod ring length":
 -- "21. .. the manager's mapped address is below the data base"
@@ -81,22 +82,25 @@ leastManager = 344
 
 -- "verified as one object; size 0 gives 13", which is no object that verifies
 -- "19. The main device has address blocks above its chunk-info blocks (added; tested once the manager is parsed)."
+unfoldable pub accepted : List ℕ → Reads (List ℕ)
+accepted sm = do
+  _ ← need (verifies sm) BadChecksum
+  _ ← need (leb leastManager (length sm)) OutsideBytes
+  _ ← need (eqb (addressBlockCount sm) 0) AddressBlocks
+  done sm
+
+-- the manager at a mapping's address, of its size
 unfoldable pub managerAt : Container → List ℕ → Mapping → Reads (List ℕ)
-managerAt c sb m = do
-  bs ← managerFrom c sb (m .address .0) (blocksFor c (m .size)) 0 []
-  let sm = take (m .size) bs in do
-    _ ← need (verifies sm) BadChecksum
-    _ ← need (leb leastManager (length sm)) OutsideBytes
-    _ ← need (eqb (addressBlockCount sm) 0) AddressBlocks
-    done sm
+managerAt c sb m = managerFrom c sb (m .address .0) (blocksFor c (m .size)) 0 [] >>= λ bs. accepted (take (m .size) bs)
 
 -- "16. A needed object id isn't in the checkpoint map."
 unfoldable pub managerBy : Container → List ℕ → Mapped → Reads (List ℕ)
 managerBy c sb Nowhere = refuse Unmapped
 managerBy c sb (To m) = managerAt c sb m
 
-unfoldable pub manager : Container → Taken → Reads (List ℕ)
-manager c t = managerBy c (t .sb) (lookup (managerId (t .sb)) (t .map))
+-- the manager that the superblock names by its id; mapped is what the checkpoint map has for one
+unfoldable pub manager : Container → List ℕ → (ObjectId → Mapped) → Reads (List ℕ)
+manager c sb mapped = managerBy c sb (mapped (managerId sb))
 
 -- "A list of indices, addresses or records is read whole before the first block it names": left fields of w bytes from off on
 unfoldable pub listFrom : ℕ → List ℕ → ℕ → ℕ → Reads (List ℕ)

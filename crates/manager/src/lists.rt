@@ -5,77 +5,83 @@ use crate::offsets::CHUNK_INFOS_AT;
 use crate::offsets::POOL_BITMAPS;
 use crate::offsets::POOL_INDICES_AT;
 use crate::place;
+use blocks::Address;
 use blocks::Container;
+use blocks::Presence;
 use blocks::Refusal;
-use blocks::Seen;
 ghost use mathlib.Core.Path.{_≡_};
 ghost use mathlib.Core.List.{List};
 ghost use Prim.Native.Nat.{ℕ, _+_, _*_, _<_, _≤_};
 ghost use lib.ListN.{length};
-ghost use Rattle.fields.specs.Fields.{Number};
-ghost use Rattle.manager.specs.Place.{bytesOf};
-ghost use Rattle.manager.specs.Lists.{FieldsSeen, ListSeen, EntryRead, IndicesSeen, InfosSeen, IndexRead, InfoRead};
+ghost use Rattle.fields.specs.contracts.Numbers.{NumberAt};
+ghost use Rattle.manager.specs.contracts.Place.{managerOn};
+ghost use Rattle.manager.specs.contracts.Lists.{FieldsSeen, ListSeen, IndicesSeen, InfosSeen, IndexRead, InfoRead};
 
 // How wide the entries of the main device's list and of the pool's are.
 const CHUNK_INFO_WIDTH: u64 = 8;
 
 const POOL_INDEX_WIDTH: u64 = 2;
 
-// Whether count fields of w bytes from at on lie inside size bytes: one test, and not a walk.
-fn list_there(size: u64, w: u64, at: u64, count: u64) -> Seen
-    requires { ⌜ 0 < w ⌝ }
-    ensures { λ r. ⌜ ((sm : List ℕ) → length sm ≡ size → FieldsSeen w sm count at r) ⌝ }
+// Whether count fields of width bytes from at on lie inside size bytes: one test, and not a walk.
+fn list_there(size: u64, width: u64, at: u64, count: u64) -> Presence
+    requires { ⌜ 0 < width ⌝ }
+    ensures { λ r. ⌜ ((sm : List ℕ) → length sm ≡ size → FieldsSeen width sm count at r) ⌝ }
 {
     if count == 0 {
-        return Seen::There;
+        return Presence::There;
     }
     if size < at {
-        return Seen::Refused(Refusal::OutsideBytes);
+        return Presence::Refused(Refusal::OutsideBytes);
     }
-    if (size - at) / w < count {
-        return Seen::Refused(Refusal::OutsideBytes);
+    if (size - at) / width < count {
+        return Presence::Refused(Refusal::OutsideBytes);
     }
-    Seen::There
+    Presence::There
 }
 
-// The list whose count and offset stand in two fields.
-fn told_list(image: &[u8], container: Container, m: Manager, w: u64, count: u64, start: u64) -> Seen
-    requires { ⌜ 0 < w ⌝ }
-    ensures { λ r. ⌜ ListSeen w count start (bytesOf (now (image .entry)) (container .size) m) r ⌝ }
+// Whether the list of fields of width bytes whose count and start stand at two offsets lies inside the manager.
+fn list_at(
+    image: &[u8],
+    container: Container,
+    manager: Manager,
+    width: u64,
+    count: u64,
+    start: u64,
+) -> Presence
+    requires { ⌜ 0 < width ⌝ }
+    ensures { λ r. ⌜ ListSeen width count start (managerOn image container manager) r ⌝ }
 {
-    let n = place::u32_of(image, container, m, count);
-    let at = place::u32_of(image, container, m, start);
-    list_there(m.size, w, at, n)
+    let n = place::u32_of(image, container, manager, count);
+    let at = place::u32_of(image, container, manager, start);
+    list_there(manager.size, width, at, n)
 }
 
-// Entry i of the list at an offset; an entry past 2^64 is past the manager's end, and counts 0.
-fn entry(image: &[u8], container: Container, m: Manager, w: u64, at: u64, i: u64) -> u64
-    requires { ⌜ (0 < w) × (w ≤ 8) ⌝ }
-    ensures { λ r. ⌜ Number w (bytesOf (now (image .entry)) (container .size) m) (at + w * i) r ⌝ }
+// Entry index of the list at an offset; an entry past 2^64 is past the manager's end, and counts 0.
+fn entry(
+    image: &[u8],
+    container: Container,
+    manager: Manager,
+    width: u64,
+    at: u64,
+    index: u64,
+) -> u64
+    requires { ⌜ (0 < width) × (width ≤ 8) ⌝ }
+    ensures { λ r. ⌜ NumberAt width (managerOn image container manager) (at + width * index) r ⌝ }
 {
-    if (u64::MAX - at) / w < i {
+    if (u64::MAX - at) / width < index {
         return 0;
     }
-    place::number(image, container.size, m, at + w * i, w)
-}
-
-// Entry i of the list whose offset stands in a field.
-fn told_entry(image: &[u8], container: Container, m: Manager, w: u64, start: u64, i: u64) -> u64
-    requires { ⌜ (0 < w) × (w ≤ 8) ⌝ }
-    ensures { λ r. ⌜ EntryRead w start (bytesOf (now (image .entry)) (container .size) m) i r ⌝ }
-{
-    let at = place::u32_of(image, container, m, start);
-    entry(image, container, m, w, at, i)
+    place::number(image, container, manager, at + width * index, width)
 }
 
 // Whether the indices of the pool's bitmap blocks may all be read.
-pub fn pool_indices(image: &[u8], container: Container, m: Manager) -> Seen
-    ensures { λ r. ⌜ IndicesSeen (bytesOf (now (image .entry)) (container .size) m) r ⌝ }
+pub fn pool_indices(image: &[u8], container: Container, manager: Manager) -> Presence
+    ensures { λ r. ⌜ IndicesSeen (managerOn image container manager) r ⌝ }
 {
-    told_list(
+    list_at(
         image,
         container,
-        m,
+        manager,
         POOL_INDEX_WIDTH,
         POOL_BITMAPS,
         POOL_INDICES_AT,
@@ -83,29 +89,36 @@ pub fn pool_indices(image: &[u8], container: Container, m: Manager) -> Seen
 }
 
 // Whether the addresses of the main device's chunk-info blocks may all be read.
-pub fn chunk_infos(image: &[u8], container: Container, m: Manager) -> Seen
-    ensures { λ r. ⌜ InfosSeen (bytesOf (now (image .entry)) (container .size) m) r ⌝ }
+pub fn chunk_infos(image: &[u8], container: Container, manager: Manager) -> Presence
+    ensures { λ r. ⌜ InfosSeen (managerOn image container manager) r ⌝ }
 {
-    told_list(
+    list_at(
         image,
         container,
-        m,
+        manager,
         CHUNK_INFO_WIDTH,
         CHUNK_INFO_COUNT,
         CHUNK_INFOS_AT,
     )
 }
 
-// Where pool bitmap block i lies in its ring, by the list's offset.
-pub fn pool_index(image: &[u8], container: Container, m: Manager, at: u64, i: u64) -> u64
-    ensures { λ r. ⌜ IndexRead (bytesOf (now (image .entry)) (container .size) m) at i r ⌝ }
+// Where pool bitmap block index lies in its ring, by the list's offset.
+pub fn pool_bitmap_index(
+    image: &[u8],
+    container: Container,
+    manager: Manager,
+    at: u64,
+    index: u64,
+) -> u64
+    ensures { λ r. ⌜ IndexRead (managerOn image container manager) at index r ⌝ }
 {
-    entry(image, container, m, POOL_INDEX_WIDTH, at, i)
+    entry(image, container, manager, POOL_INDEX_WIDTH, at, index)
 }
 
-// The address of chunk-info block i.
-pub fn chunk_info(image: &[u8], container: Container, m: Manager, i: u64) -> u64
-    ensures { λ r. ⌜ InfoRead (bytesOf (now (image .entry)) (container .size) m) i r ⌝ }
+// The address of chunk-info block index.
+pub fn chunk_info(image: &[u8], container: Container, manager: Manager, index: u64) -> Address
+    ensures { λ r. ⌜ InfoRead (managerOn image container manager) index (r .0) ⌝ }
 {
-    told_entry(image, container, m, CHUNK_INFO_WIDTH, CHUNK_INFOS_AT, i)
+    let at = place::u32_of(image, container, manager, CHUNK_INFOS_AT);
+    Address(entry(image, container, manager, CHUNK_INFO_WIDTH, at, index))
 }

@@ -12,14 +12,14 @@ use borrow.Author.Tests.{le-leb, lt-leb, leb-true, leb-false, eq-eqb, ne-eqb, no
 use Rattle.fields.specs.Choice.{pick}
 use Rattle.fields.specs.Fields.{num, fieldAt, bit}
 use Rattle.fields.specs.declared.Field.{Field}
-use Rattle.fields.specs.declared.Field.the-variants as field
+use Rattle.fields.specs.declared.Field.the-variants as found
 use Rattle.fields.proofs.Laws.{field-there, field-absent}
 use Rattle.fields.specs.Header.{kindOf, objectMapKind}
 use Rattle.blocks.specs.Reads.{Reads, Outcome, given, refused, run, done, _>>=_, need}
 use Rattle.blocks.specs.Blocks.{readObject, present, field, part}
-use Rattle.blocks.specs.Answers.{seenAs}
-use Rattle.blocks.specs.declared.Seen.{Seen}
-use Rattle.blocks.specs.declared.Seen.the-variants.{There, Refused}
+use Rattle.blocks.specs.contracts.Answers.{thereAs}
+use Rattle.blocks.specs.declared.Presence.{Presence}
+use Rattle.blocks.specs.declared.Presence.the-variants.{There, Refused}
 use Rattle.blocks.specs.declared.Refusal.{Refusal}
 use Rattle.blocks.specs.declared.Address.{Address}
 use Rattle.blocks.specs.declared.Container.{Container}
@@ -32,15 +32,15 @@ use Rattle.nodes.specs.declared.Part.{Part}
 use Rattle.nodes.specs.declared.Value.{Value}
 use Rattle.nodes.specs.declared.Value.the-variants.{Ghost, At}
 use Rattle.nodes.specs.ObjectMap.{treeType, physical, rootAddress, readObjectMap, describeMap, loadObjectMap}
-use Rattle.nodes.specs.Answers.{isPlain, isSound, partIn, valueIn}
+use Rattle.nodes.specs.contracts.Answers.{isPlain, isSound, partIn, valueIn}
 
 -- what was read, by the answer to whether it may be
-module _ {A : Type 0} (a : A) (o : Outcome A) (r : Seen) (e : seenAs a r ≡ o) where
+module _ {A : Type 0} (a : A) (o : Outcome A) (r : Presence) (e : thereAs a r ≡ o) where
   pub seen-there : r ≡ There → o ≡ given a
-  seen-there t = sym e ∙ ap (seenAs a) t
+  seen-there t = sym e ∙ ap (thereAs a) t
 
   pub seen-refused : (x : Refusal) → r ≡ Refused x → o ≡ refused x
-  seen-refused x t = sym e ∙ ap (seenAs a) t
+  seen-refused x t = sym e ∙ ap (thereAs a) t
 
 -- a kind that may be either of two
 module _ (k kind m n : ℕ) (q : k ≡ kind) where
@@ -135,22 +135,11 @@ module _ (f : ℕ → List ℕ) (c : Container) (a : Address) where
   node-refused r e = then-refused f _ _ r e
 
   -- b is the block that was read
-  pub node-parsed : (b : List ℕ) → b ≡ f (a .0) → (o : Seen) → seenAs (f (a .0)) o ≡ run f (readObject c a) → o ≡ There → (r : Seen) → seenAs b r ≡ run f (parse b) → seenAs (f (a .0)) r ≡ run f (readNode c a)
+  pub node-parsed : (b : List ℕ) → b ≡ f (a .0) → (o : Presence) → thereAs (f (a .0)) o ≡ run f (readObject c a) → o ≡ There → (r : Presence) → thereAs b r ≡ run f (parse b) → thereAs (f (a .0)) r ≡ run f (readNode c a)
   unfolding readNode
   node-parsed b q o s there r p = (rw q at p) ∙ sym (then-given f _ _ _ (seen-there _ _ o s there))
 
--- room for len bytes from at on, by a difference that can't be negative
-pub leb-less : (at len n : ℕ) → at ≤ n → leb len (n - at) ≡ leb (at + len) n
-leb-less at len n h = go (decLe (at + len) n)
-  where
-    go : Dec (at + len ≤ n) → leb len (n - at) ≡ leb (at + len) n
-    go (yes p) = le-leb len (n - at) (omega arith) ∙ sym (le-leb (at + len) n p)
-    go (no p) = lt-leb len (n - at) (omega arith) ∙ sym (lt-leb (at + len) n (omega arith))
-
-pub leb-past : (at len n : ℕ) → n < at → leb (at + len) n ≡ false
-leb-past at len n h = lt-leb (at + len) n (omega arith)
-
--- what an answer to that tells
+-- what a test for room tells
 module _ (at len n : ℕ) (r : Bool) (q : r ≡ leb (at + len) n) where
   pub room-there : not r ≡ false → at + len ≤ n
   room-there e = leb-true _ _ (sym q ∙ not-false _ e)
@@ -270,20 +259,25 @@ module _ (f : ℕ → List ℕ) (d : Description) (b : List ℕ) (i : ℕ) where
       unfolding run entry
       entry-given v q = then-given f _ _ s e ∙ (then-given f _ _ k p ∙ then-given f _ _ v q)
 
+-- a field, by what a reader of it found
+module _ (f : ℕ → List ℕ) (w : ℕ) (b : List ℕ) (off : ℕ) (r : Field) (is : r ≡ fieldAt w b off) where
+  pub field-value : (v : ℕ) → r ≡ found.Value v → run f (field w b off) ≡ given v
+  unfolding run field present
+  field-value v e = rw (← is, e)
+
+  pub field-none : r ≡ found.Absent → run f (field w b off) ≡ refused OutsideBytes
+  unfolding run field present
+  field-none e = rw (← is, e)
+
 -- a pointer is the first field of a value
 module _ (f : ℕ → List ℕ) (b : List ℕ) (v : Value) where
   pub pointer-ghost : v ≡ Ghost → run f (pointer (valueIn b v)) ≡ refused OutsideBytes
   unfolding run pointer
   pointer-ghost e = rw e
 
-  module _ (p : Part) (e : v ≡ At p) (r : Field) (is : r ≡ fieldAt 8 (partIn b p) 0) where
-    pub pointer-absent : r ≡ field.Absent → run f (pointer (valueIn b v)) ≡ refused OutsideBytes
-    unfolding run pointer field present
-    pointer-absent a = rw (e, ← is, a)
-
-    pub pointer-given : (n : ℕ) → r ≡ field.Value n → run f (pointer (valueIn b v)) ≡ given n
-    unfolding run pointer field present
-    pointer-given n a = rw (e, ← is, a)
+  pub pointer-field : (p : Part) → v ≡ At p → run f (pointer (valueIn b v)) ≡ run f (field 8 (partIn b p) 0)
+  unfolding pointer
+  pointer-field p e = rw e
 
 -- the object map's steps, in their order
 module _ (f : ℕ → List ℕ) (c : Container) (a : Address) where
@@ -292,7 +286,7 @@ module _ (f : ℕ → List ℕ) (c : Container) (a : Address) where
   map-unread r e = then-refused f _ _ r e
 
   -- b is the block that was read; then its fields, as they were
-  module _ (b : List ℕ) (q : b ≡ f (a .0)) (o : Seen) (s : seenAs (f (a .0)) o ≡ run f (readObject c a)) (there : o ≡ There) (kind : ℕ) (is : kind ≡ kindOf b) where
+  module _ (b : List ℕ) (q : b ≡ f (a .0)) (o : Presence) (s : thereAs (f (a .0)) o ≡ run f (readObject c a)) (there : o ≡ There) (kind : ℕ) (is : kind ≡ kindOf b) where
     read-here : run f (readObject c a) ≡ given b
     read-here = seen-there _ _ o s there ∙ ap given (sym q)
 
@@ -339,7 +333,7 @@ module _ (f : ℕ → List ℕ) (c : Container) (a : Address) where
     load-no-node r n = then-given f _ _ root e ∙ then-refused f _ _ r n
 
     -- b is the block that was read
-    module _ (b : List ℕ) (q : b ≡ f (root .0)) (o : Seen) (s : seenAs (f (root .0)) o ≡ run f (readNode c root)) (there : o ≡ There) where
+    module _ (b : List ℕ) (q : b ≡ f (root .0)) (o : Presence) (s : thereAs (f (root .0)) o ≡ run f (readNode c root)) (there : o ≡ There) where
       node-here : run f (readNode c root) ≡ given b
       node-here = seen-there _ _ o s there ∙ ap given (sym q)
 

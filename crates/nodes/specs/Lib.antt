@@ -1,6 +1,6 @@
--- Nodes, scans and walks of trees, the object map, and what the code's answers stand for.
+-- Nodes, scans and walks of trees, the object map.
 pub mod Node
 pub mod Scan
 pub mod Walk
 pub mod ObjectMap
-pub mod Answers
+pub mod contracts

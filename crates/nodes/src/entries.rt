@@ -1,32 +1,30 @@
 // A node's table and its entries, as places in the node.
-use crate::Cut;
 use crate::Description;
-use crate::Located;
+use crate::EntryAnswer;
+use crate::EntryPlace;
 use crate::Part;
-use crate::Places;
-use crate::Pointer;
+use crate::PartAnswer;
 use crate::Slot;
-use crate::Slotted;
+use crate::SlotAnswer;
 use crate::Value;
-use crate::Valued;
+use crate::ValueAnswer;
 use crate::node::is_fixed;
 use crate::node::is_leaf;
 use crate::node::keys_at;
 use crate::node::table_at;
 use crate::node::value_end;
+use blocks::NumberAnswer;
 use blocks::Refusal;
 use fields::Field;
+use fields::fits;
 ghost use mathlib.Core.Path.{_≡_};
-ghost use mathlib.Core.List.{List};
-ghost use Prim.Native.Nat.{ℕ, _+_};
-ghost use lib.Dec.{leb};
-ghost use lib.ListN.{length};
+ghost use Prim.Native.Nat.{_+_};
 ghost use Rattle.fields.specs.Choice.{pick};
-ghost use Rattle.blocks.specs.Reads.{run};
-ghost use Rattle.blocks.specs.Blocks.{part};
-ghost use Rattle.nodes.specs.Node.{isLeaf, keysAt, fixedSlot, variableSlot, valueOf};
-ghost use Rattle.nodes.specs.Node.{slot as slotOf, entry as entryOf, pointer as pointerOf};
-ghost use Rattle.nodes.specs.Answers.{slotAs, cutIn, valueIn, valuedIn, entryIn, pointerAs};
+ghost use Rattle.blocks.specs.Blocks.{field, part};
+ghost use Rattle.blocks.specs.contracts.Images.{bytes};
+ghost use Rattle.blocks.specs.contracts.Answers.{numberAs, Always};
+ghost use Rattle.nodes.specs.Node.{isLeaf, keysAt, fixedSlot, variableSlot, valueOf, slot as slotOf, entry as entryOf, pointer as pointerOf};
+ghost use Rattle.nodes.specs.contracts.Answers.{partIn, valueIn, slotAs, partAs, valueAs, entryAs};
 
 // A row of the table: two offsets where sizes are fixed, else each with its length.
 const FIXED_ROW: u64 = 4;
@@ -36,61 +34,57 @@ const VARIABLE_ROW: u64 = 8;
 // How far apart a row's fields are.
 const STEP: usize = 2;
 
+// A child pointer, and where it stands in its value.
 const POINTER_SIZE: u64 = 8;
+
+const POINTER: usize = 0;
 
 // The value offset of an entry without value.
 const GHOST: u64 = 0xffff;
 
-// Whether the len bytes from at on are all there.
-fn inside(b: &[u8], at: u64, len: u64) -> bool
-    ensures { λ r. ⌜ r ≡ leb (at + len) (length (now (b .entry))) ⌝ }
-{
-    let n = b.len() as u64;
-    if n < at {
-        return false;
-    }
-    len <= n - at
-}
-
 // How long a value is where sizes are fixed: an index node's are child pointers.
-fn fixed_value(node: &[u8], d: Description) -> u64
-    ensures { λ r. ⌜ r ≡ pick (isLeaf (now (node .entry))) (d .value) 8 ⌝ }
+fn fixed_value(node: &[u8], description: Description) -> u64
+    ensures { λ r. ⌜ r ≡ pick (isLeaf (bytes node)) (description .value) 8 ⌝ }
 {
-    if is_leaf(node) { d.value } else { POINTER_SIZE }
+    if is_leaf(node) {
+        description.value
+    } else {
+        POINTER_SIZE
+    }
 }
 
 // The row at byte at, where sizes are fixed.
-pub fn fixed_slot(node: &[u8], d: Description, at: u64) -> Slotted
-    ensures { λ r. ⌜ ((f : ℕ → List ℕ) → slotAs r ≡ run f (fixedSlot d (now (node .entry)) at)) ⌝ }
+fn fixed_slot(node: &[u8], description: Description, at: u64) -> SlotAnswer
+    ensures { λ r. ⌜ Always (slotAs r) (fixedSlot description (bytes node) at) ⌝ }
 {
-    if !inside(node, at, FIXED_ROW) {
-        return Slotted::Refused(Refusal::OutsideBytes);
+    if !fits(node.len() as u64, at, FIXED_ROW) {
+        return SlotAnswer::Refused(Refusal::OutsideBytes);
     }
     let e = at as usize;
     let koff = fields::u16_of(node, e);
     let voff = fields::u16_of(node, e + STEP);
-    let vlen = fixed_value(node, d);
-    Slotted::Row(Slot {
+    let vlen = fixed_value(node, description);
+    SlotAnswer::Given(Slot {
         koff,
-        klen: d.key,
+        klen: description.key,
         voff,
         vlen,
     })
 }
 
 // The row at byte at, where sizes vary.
-pub fn variable_slot(node: &[u8], at: u64) -> Slotted
-    ensures { λ r. ⌜ ((f : ℕ → List ℕ) → slotAs r ≡ run f (variableSlot (now (node .entry)) at)) ⌝ }
+fn variable_slot(node: &[u8], at: u64) -> SlotAnswer
+    ensures { λ r. ⌜ Always (slotAs r) (variableSlot (bytes node) at) ⌝ }
 {
-    if !inside(node, at, VARIABLE_ROW) {
-        return Slotted::Refused(Refusal::OutsideBytes);
+    if !fits(node.len() as u64, at, VARIABLE_ROW) {
+        return SlotAnswer::Refused(Refusal::OutsideBytes);
     }
     let e = at as usize;
     let koff = fields::u16_of(node, e);
     let klen = fields::u16_of(node, e + STEP);
     let voff = fields::u16_of(node, e + 2 * STEP);
     let vlen = fields::u16_of(node, e + 3 * STEP);
-    Slotted::Row(Slot {
+    SlotAnswer::Given(Slot {
         koff,
         klen,
         voff,
@@ -98,79 +92,79 @@ pub fn variable_slot(node: &[u8], at: u64) -> Slotted
     })
 }
 
-// Row i of the table. A row that would begin past the node's end is tested first, so that no sum wraps.
-pub fn slot(node: &[u8], d: Description, i: u64) -> Slotted
-    ensures { λ r. ⌜ ((f : ℕ → List ℕ) → slotAs r ≡ run f (slotOf d (now (node .entry)) i)) ⌝ }
+// Row index of the table. A row that would begin past the node's end is tested first, so that no sum wraps.
+fn slot(node: &[u8], description: Description, index: u64) -> SlotAnswer
+    ensures { λ r. ⌜ Always (slotAs r) (slotOf description (bytes node) index) ⌝ }
 {
     let n = node.len() as u64;
     let table = table_at(node);
     if is_fixed(node) {
-        if n / FIXED_ROW < i {
-            return Slotted::Refused(Refusal::OutsideBytes);
+        if n / FIXED_ROW < index {
+            return SlotAnswer::Refused(Refusal::OutsideBytes);
         }
-        return fixed_slot(node, d, table + i * FIXED_ROW);
+        return fixed_slot(node, description, table + index * FIXED_ROW);
     }
-    if n / VARIABLE_ROW < i {
-        return Slotted::Refused(Refusal::OutsideBytes);
+    if n / VARIABLE_ROW < index {
+        return SlotAnswer::Refused(Refusal::OutsideBytes);
     }
-    variable_slot(node, table + i * VARIABLE_ROW)
+    variable_slot(node, table + index * VARIABLE_ROW)
 }
 
 // The len bytes of a node from at on, which must all be there.
-fn cut(node: &[u8], at: u64, len: u64) -> Cut
-    ensures { λ r. ⌜ ((f : ℕ → List ℕ) → cutIn (now (node .entry)) r ≡ run f (part len (now (node .entry)) at)) ⌝ }
+fn cut(node: &[u8], at: u64, len: u64) -> PartAnswer
+    ensures { λ r. ⌜ Always (partAs (bytes node) r) (part len (bytes node) at) ⌝ }
 {
-    if !inside(node, at, len) {
-        return Cut::Refused(Refusal::OutsideBytes);
+    if !fits(node.len() as u64, at, len) {
+        return PartAnswer::Refused(Refusal::OutsideBytes);
     }
-    Cut::At(Part { at, len })
+    PartAnswer::Given(Part { at, len })
 }
 
 // A row's key. An offset past the node's end is tested first, so that no sum wraps.
-fn key_of(node: &[u8], s: Slot) -> Cut
-    ensures { λ r. ⌜ ((f : ℕ → List ℕ) → cutIn (now (node .entry)) r ≡ run f (part (s .klen) (now (node .entry)) (keysAt (now (node .entry)) + s .koff))) ⌝ }
+fn key_of(node: &[u8], slot: Slot) -> PartAnswer
+    ensures { λ r. ⌜ Always (partAs (bytes node) r) (part (slot .klen) (bytes node) (keysAt (bytes node) + slot .koff)) ⌝ }
 {
     let keys = keys_at(node);
-    if (node.len() as u64) < s.koff {
-        return Cut::Refused(Refusal::OutsideBytes);
+    if (node.len() as u64) < slot.koff {
+        return PartAnswer::Refused(Refusal::OutsideBytes);
     }
-    cut(node, keys + s.koff, s.klen)
+    cut(node, keys + slot.koff, slot.klen)
 }
 
 // A row's value, counted back from the value end.
-fn value_of(node: &[u8], s: Slot) -> Valued
-    ensures { λ r. ⌜ ((f : ℕ → List ℕ) → valuedIn (now (node .entry)) r ≡ run f (valueOf (now (node .entry)) s)) ⌝ }
+fn value_of(node: &[u8], slot: Slot) -> ValueAnswer
+    ensures { λ r. ⌜ Always (valueAs (bytes node) r) (valueOf (bytes node) slot) ⌝ }
 {
-    if s.voff == GHOST {
-        return Valued::As(Value::Ghost);
+    if slot.voff == GHOST {
+        return ValueAnswer::Given(Value::Ghost);
     }
     let end = value_end(node);
-    if end < s.voff {
-        return Valued::Refused(Refusal::OutsideBytes);
+    if end < slot.voff {
+        return ValueAnswer::Refused(Refusal::OutsideBytes);
     }
-    let c = cut(node, end - s.voff, s.vlen);
+    let c = cut(node, end - slot.voff, slot.vlen);
     match c {
-        Cut::Refused(r) => Valued::Refused(r),
-        Cut::At(p) => Valued::As(Value::At(p)),
+        PartAnswer::Refused(r) => ValueAnswer::Refused(r),
+        PartAnswer::Given(p) => ValueAnswer::Given(Value::At(p)),
     }
 }
 
-// Entry i of a node: each key and value is a part cut from the node's middle.
-pub fn entry(node: &[u8], d: Description, i: u64) -> Located
-    ensures { λ r. ⌜ ((f : ℕ → List ℕ) → entryIn (now (node .entry)) r ≡ run f (entryOf d (now (node .entry)) i)) ⌝ }
+// Entry index of a node: each key and value is a part cut from the node's middle.
+pub fn entry(node: &[u8], description: Description, index: u64) -> EntryAnswer
+    ensures { λ r. ⌜ Always (entryAs (bytes node) r) (entryOf description (bytes node) index) ⌝ }
 {
-    let row = slot(node, d, i);
+    let row = slot(node, description, index);
     match row {
-        Slotted::Refused(r) => Located::Refused(r),
-        Slotted::Row(s) => {
+        SlotAnswer::Refused(r) => EntryAnswer::Refused(r),
+        SlotAnswer::Given(s) => {
             let k = key_of(node, s);
             match k {
-                Cut::Refused(r) => Located::Refused(r),
-                Cut::At(key) => {
+                PartAnswer::Refused(r) => EntryAnswer::Refused(r),
+                PartAnswer::Given(key) => {
                     let v = value_of(node, s);
                     match v {
-                        Valued::Refused(r) => Located::Refused(r),
-                        Valued::As(value) => Located::At(Places { key, value }),
+                        ValueAnswer::Refused(r) => EntryAnswer::Refused(r),
+                        ValueAnswer::Given(value) => EntryAnswer::Given(EntryPlace { key, value }),
                     }
                 }
             }
@@ -178,18 +172,23 @@ pub fn entry(node: &[u8], d: Description, i: u64) -> Located
     }
 }
 
+// The field of eight bytes from at on in a part of a node.
+pub fn field_in(node: &[u8], part: Part, at: usize) -> NumberAnswer
+    ensures { λ r. ⌜ Always (numberAs r) (field 8 (partIn (bytes node) part) at) ⌝ }
+{
+    let found = fields::u64_in(node, part.at as usize, part.len as usize, at);
+    match found {
+        Field::Value(v) => NumberAnswer::Given(v),
+        Field::Absent => NumberAnswer::Refused(Refusal::OutsideBytes),
+    }
+}
+
 // The child pointer, address or id that a value begins with.
-pub fn pointer(node: &[u8], value: Value) -> Pointer
-    ensures { λ r. ⌜ ((f : ℕ → List ℕ) → pointerAs r ≡ run f (pointerOf (valueIn (now (node .entry)) value))) ⌝ }
+pub fn pointer(node: &[u8], value: Value) -> NumberAnswer
+    ensures { λ r. ⌜ Always (numberAs r) (pointerOf (valueIn (bytes node) value)) ⌝ }
 {
     match value {
-        Value::Ghost => Pointer::Refused(Refusal::OutsideBytes),
-        Value::At(p) => {
-            let first = fields::u64_in(node, p.at as usize, p.len as usize, 0);
-            match first {
-                Field::Value(v) => Pointer::To(v),
-                Field::Absent => Pointer::Refused(Refusal::OutsideBytes),
-            }
-        }
+        Value::Ghost => NumberAnswer::Refused(Refusal::OutsideBytes),
+        Value::At(p) => field_in(node, p, POINTER),
     }
 }

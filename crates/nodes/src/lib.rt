@@ -1,5 +1,4 @@
 // Nodes of trees (btree.rs) and the object map (omap.rs).
-use blocks::Address;
 use blocks::Refusal;
 
 pub mod entries;
@@ -33,44 +32,33 @@ pub enum Value {
 }
 
 // Where an entry's key and value stand in their node.
-pub struct Places {
+pub struct EntryPlace {
     pub key: Part,
     pub value: Value,
 }
 
-pub enum Described {
-    As(Description),
+pub enum DescriptionAnswer {
+    Given(Description),
     Refused(Refusal),
 }
 
-pub enum Slotted {
-    Row(Slot),
+pub enum SlotAnswer {
+    Given(Slot),
     Refused(Refusal),
 }
 
 // A part that must lie wholly inside its node.
-pub enum Cut {
-    At(Part),
+pub enum PartAnswer {
+    Given(Part),
     Refused(Refusal),
 }
 
-pub enum Valued {
-    As(Value),
+pub enum ValueAnswer {
+    Given(Value),
     Refused(Refusal),
 }
 
-pub enum Located {
-    At(Places),
-    Refused(Refusal),
-}
-
-pub enum Pointer {
-    To(u64),
-    Refused(Refusal),
-}
-
-// The root of an object map's tree.
-pub enum Root {
-    At(Address),
+pub enum EntryAnswer {
+    Given(EntryPlace),
     Refused(Refusal),
 }

@@ -1,21 +1,18 @@
 // A node's header, and which nodes are taken.
-use crate::Described;
 use crate::Description;
+use crate::DescriptionAnswer;
 use blocks::Address;
 use blocks::Container;
+use blocks::Presence;
 use blocks::Refusal;
-use blocks::Seen;
 ghost use mathlib.Core.Path.{_≡_};
-ghost use mathlib.Core.List.{List};
-ghost use Prim.Native.Nat.{ℕ, _-_, _/_, _%_, _^_, _<_, _≤_};
-ghost use lib.Dec.{eqb};
+ghost use Prim.Native.Nat.{_-_, _^_, _<_, _≤_};
 ghost use lib.ListN.{length};
-ghost use Rattle.blocks.specs.Reads.{run};
-ghost use Rattle.blocks.specs.Blocks.{blockOf};
-ghost use Rattle.blocks.specs.Answers.{seenAs};
-ghost use Rattle.nodes.specs.Node.{flagsOf, isRoot, isLeaf, isFixed, isHashed, levelOf, keyCount, tableAt, keysAt, descriptionLength, valueEnd, readNode};
-ghost use Rattle.nodes.specs.Node.{parse as parseOf, describe as describeOf};
-ghost use Rattle.nodes.specs.Answers.{isNode, isPlain, isSound, describedAs};
+ghost use Rattle.blocks.specs.contracts.Images.{bytes};
+ghost use Rattle.blocks.specs.contracts.Answers.{thereAs, Always, Sees};
+ghost use Rattle.nodes.specs.Node.{isRoot, isLeaf, isFixed, isHashed, levelOf, keyCount, tableAt, keysAt, descriptionLength, valueEnd};
+ghost use Rattle.nodes.specs.Node.{readNode, parse as parseOf, describe as describeOf};
+ghost use Rattle.nodes.specs.contracts.Answers.{isNode, isPlain, isSound, descriptionAs};
 
 const ROOT_NODE: u64 = 2;
 
@@ -35,14 +32,14 @@ const TABLE_LENGTH: usize = 42;
 // The table's offset is counted from the header's end.
 const HEADER: u64 = 56;
 
-// Flags of a node.
-const ROOT: u64 = 1;
+// Bits of a node's flags.
+const ROOT: u64 = 0;
 
-const LEAF: u64 = 2;
+const LEAF: u64 = 1;
 
-const FIXED: u64 = 4;
+const FIXED: u64 = 2;
 
-const HASHED: u64 = 8;
+const HASHED: u64 = 3;
 
 const DEEPEST: u64 = 32;
 
@@ -53,65 +50,57 @@ const KEY_SIZE: usize = 8;
 
 const VALUE_SIZE: usize = 12;
 
-// Whether a node has a flag, a power of two: one reader for all four.
-fn has(node: &[u8], flag: u64) -> bool
-    requires { ⌜ 0 < flag ⌝ }
-    ensures { λ r. ⌜ r ≡ eqb (flagsOf (now (node .entry)) / flag % 2) 1 ⌝ }
+fn is_root(node: &[u8]) -> bool
+    ensures { λ r. ⌜ r ≡ isRoot (bytes node) ⌝ }
 {
-    fields::u16_of(node, FLAGS) / flag % 2 == 1
-}
-
-pub fn is_root(node: &[u8]) -> bool
-    ensures { λ r. ⌜ r ≡ isRoot (now (node .entry)) ⌝ }
-{
-    has(node, ROOT)
+    fields::has_bit(fields::u16_of(node, FLAGS), ROOT)
 }
 
 pub fn is_leaf(node: &[u8]) -> bool
-    ensures { λ r. ⌜ r ≡ isLeaf (now (node .entry)) ⌝ }
+    ensures { λ r. ⌜ r ≡ isLeaf (bytes node) ⌝ }
 {
-    has(node, LEAF)
+    fields::has_bit(fields::u16_of(node, FLAGS), LEAF)
 }
 
-pub fn is_fixed(node: &[u8]) -> bool
-    ensures { λ r. ⌜ r ≡ isFixed (now (node .entry)) ⌝ }
+pub(crate) fn is_fixed(node: &[u8]) -> bool
+    ensures { λ r. ⌜ r ≡ isFixed (bytes node) ⌝ }
 {
-    has(node, FIXED)
+    fields::has_bit(fields::u16_of(node, FLAGS), FIXED)
 }
 
-pub fn is_hashed(node: &[u8]) -> bool
-    ensures { λ r. ⌜ r ≡ isHashed (now (node .entry)) ⌝ }
+fn is_hashed(node: &[u8]) -> bool
+    ensures { λ r. ⌜ r ≡ isHashed (bytes node) ⌝ }
 {
-    has(node, HASHED)
+    fields::has_bit(fields::u16_of(node, FLAGS), HASHED)
 }
 
 pub fn level(node: &[u8]) -> u64
-    ensures { λ r. ⌜ (r ≡ levelOf (now (node .entry))) × (r < 2 ^ 16) ⌝ }
+    ensures { λ r. ⌜ (r ≡ levelOf (bytes node)) × (r < 2 ^ 16) ⌝ }
 {
     fields::u16_of(node, LEVEL)
 }
 
 pub fn key_count(node: &[u8]) -> u64
-    ensures { λ r. ⌜ (r ≡ keyCount (now (node .entry))) × (r < 2 ^ 32) ⌝ }
+    ensures { λ r. ⌜ (r ≡ keyCount (bytes node)) × (r < 2 ^ 32) ⌝ }
 {
     fields::u32_of(node, KEY_COUNT)
 }
 
-pub fn table_at(node: &[u8]) -> u64
-    ensures { λ r. ⌜ (r ≡ tableAt (now (node .entry))) × (r < 2 ^ 17) ⌝ }
+pub(crate) fn table_at(node: &[u8]) -> u64
+    ensures { λ r. ⌜ (r ≡ tableAt (bytes node)) × (r < 2 ^ 17) ⌝ }
 {
     HEADER + fields::u16_of(node, TABLE_OFFSET)
 }
 
-pub fn keys_at(node: &[u8]) -> u64
-    ensures { λ r. ⌜ (r ≡ keysAt (now (node .entry))) × (r < 2 ^ 18) ⌝ }
+pub(crate) fn keys_at(node: &[u8]) -> u64
+    ensures { λ r. ⌜ (r ≡ keysAt (bytes node)) × (r < 2 ^ 18) ⌝ }
 {
     table_at(node) + fields::u16_of(node, TABLE_LENGTH)
 }
 
 // Where a root's tree description begins.
 fn description_at(node: &[u8]) -> usize
-    ensures { λ r. ⌜ r ≡ length (now (node .entry)) - descriptionLength ⌝ }
+    ensures { λ r. ⌜ r ≡ length (bytes node) - descriptionLength ⌝ }
 {
     let len = node.len();
     if len < DESCRIPTION {
@@ -122,8 +111,8 @@ fn description_at(node: &[u8]) -> usize
 }
 
 // Where the values end: they are counted back from here.
-pub fn value_end(node: &[u8]) -> u64
-    ensures { λ r. ⌜ (r ≡ valueEnd (now (node .entry))) × (r ≤ length (now (node .entry))) ⌝ }
+pub(crate) fn value_end(node: &[u8]) -> u64
+    ensures { λ r. ⌜ (r ≡ valueEnd (bytes node)) × (r ≤ length (bytes node)) ⌝ }
 {
     let whole = node.len() as u64;
     let less = description_at(node) as u64;
@@ -131,7 +120,7 @@ pub fn value_end(node: &[u8]) -> u64
 }
 
 fn is_node(node: &[u8]) -> bool
-    ensures { λ r. ⌜ r ≡ isNode (now (node .entry)) ⌝ }
+    ensures { λ r. ⌜ r ≡ isNode (bytes node) ⌝ }
 {
     let kind = fields::kind(node);
     kind == ROOT_NODE || kind == NODE
@@ -139,57 +128,57 @@ fn is_node(node: &[u8]) -> bool
 
 // Whether bytes are a node of a kind that is taken: a hashed node's is not.
 fn is_plain(node: &[u8]) -> bool
-    ensures { λ r. ⌜ r ≡ isPlain (now (node .entry)) ⌝ }
+    ensures { λ r. ⌜ r ≡ isPlain (bytes node) ⌝ }
 {
     is_node(node) && !is_hashed(node)
 }
 
 // Whether the key area begins before the values end, or where they do, and the level is one that a tree may have.
 fn is_sound(node: &[u8]) -> bool
-    ensures { λ r. ⌜ r ≡ isSound (now (node .entry)) ⌝ }
+    ensures { λ r. ⌜ r ≡ isSound (bytes node) ⌝ }
 {
     keys_at(node) <= value_end(node) && level(node) <= DEEPEST
 }
 
 // Whether bytes are a node that can be taken apart.
-pub fn parse(node: &[u8]) -> Seen
-    ensures { λ r. ⌜ ((f : ℕ → List ℕ) → seenAs (now (node .entry)) r ≡ run f (parseOf (now (node .entry)))) ⌝ }
+fn parse(node: &[u8]) -> Presence
+    ensures { λ r. ⌜ Always (thereAs (bytes node) r) (parseOf (bytes node)) ⌝ }
 {
     let plain = is_plain(node);
     let sound = is_sound(node);
     if !plain {
-        return Seen::Refused(Refusal::WrongKind);
+        return Presence::Refused(Refusal::WrongKind);
     }
     if !sound {
-        return Seen::Refused(Refusal::BadNode);
+        return Presence::Refused(Refusal::BadNode);
     }
-    Seen::There
+    Presence::There
 }
 
 // Whether the node at an address may be read: what is read is its block.
-pub fn read_node(image: &[u8], container: Container, a: Address) -> Seen
-    ensures { λ r. ⌜ seenAs (blockOf (now (image .entry)) (container .size) (a .0)) r ≡ run (blockOf (now (image .entry)) (container .size)) (readNode container a) ⌝ }
+pub fn read_node(image: &[u8], container: Container, address: Address) -> Presence
+    ensures { λ r. ⌜ Sees image container address r (readNode container address) ⌝ }
 {
-    let seen = blocks::object_block(image, container, a);
+    let seen = blocks::object_block(image, container, address);
     match seen {
-        Seen::Refused(r) => Seen::Refused(r),
-        Seen::There => {
-            let node = blocks::block(image, container.size, a.0);
+        Presence::Refused(r) => Presence::Refused(r),
+        Presence::There => {
+            let node = blocks::block(image, container.size, address);
             parse(node)
         }
     }
 }
 
 // What a root says of its tree; no other node says it.
-pub fn describe(node: &[u8]) -> Described
-    ensures { λ r. ⌜ ((f : ℕ → List ℕ) → describedAs r ≡ run f (describeOf (now (node .entry)))) ⌝ }
+pub fn describe(node: &[u8]) -> DescriptionAnswer
+    ensures { λ r. ⌜ Always (descriptionAs r) (describeOf (bytes node)) ⌝ }
 {
     if !is_root(node) {
-        return Described::Refused(Refusal::BadNode);
+        return DescriptionAnswer::Refused(Refusal::BadNode);
     }
     let at = description_at(node);
     let flags = fields::u32_of(node, at);
     let key = fields::u32_of(node, at + KEY_SIZE);
     let value = fields::u32_of(node, at + VALUE_SIZE);
-    Described::As(Description { flags, key, value })
+    DescriptionAnswer::Given(Description { flags, key, value })
 }

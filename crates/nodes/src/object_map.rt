@@ -1,23 +1,22 @@
 // The object map: its header, and the root of its tree.
-use crate::Described;
 use crate::Description;
-use crate::Root;
+use crate::DescriptionAnswer;
 use crate::node::describe;
 use crate::node::read_node;
 use blocks::Address;
+use blocks::AddressAnswer;
 use blocks::Container;
+use blocks::Presence;
 use blocks::Refusal;
-use blocks::Seen;
 ghost use mathlib.Core.Path.{_≡_};
 ghost use mathlib.Core.Bool.{_&&_};
-ghost use mathlib.Core.List.{List};
-ghost use Prim.Native.Nat.{ℕ};
 ghost use lib.Dec.{eqb};
 ghost use Rattle.fields.specs.Fields.{bit};
 ghost use Rattle.blocks.specs.Reads.{run};
-ghost use Rattle.blocks.specs.Blocks.{blockOf};
+ghost use Rattle.blocks.specs.contracts.Images.{bytes, blocksIn};
+ghost use Rattle.blocks.specs.contracts.Answers.{addressAs, Always};
 ghost use Rattle.nodes.specs.ObjectMap.{readObjectMap, describeMap, loadObjectMap};
-ghost use Rattle.nodes.specs.Answers.{describedAs, rootAs};
+ghost use Rattle.nodes.specs.contracts.Answers.{descriptionAs};
 
 const OBJECT_MAP: u64 = 11;
 
@@ -27,81 +26,78 @@ const TREE_TYPE: usize = 40;
 const TREE_ROOT: usize = 48;
 
 // A type's top two bits tell how its objects are stored.
-const STORAGE: u64 = 1 << 30;
+const STORAGE: u64 = 30;
 
 const PHYSICAL: u64 = 1;
 
-// What an object map's tree is like: a flag of its description, and the size of its keys and of its values.
-const PHYSICAL_TREE: u64 = 0x10;
+// What an object map's tree is like: a bit of its flags, and the size of its keys and of its values.
+const PHYSICAL_TREE: u64 = 4;
 
 const PAIR_SIZE: u64 = 16;
 
 // The address of the tree's root.
-pub fn read_object_map(image: &[u8], container: Container, a: Address) -> Root
-    ensures { λ r. ⌜ rootAs r ≡ run (blockOf (now (image .entry)) (container .size)) (readObjectMap container a) ⌝ }
+fn read_object_map(image: &[u8], container: Container, address: Address) -> AddressAnswer
+    ensures { λ r. ⌜ addressAs r ≡ run (blocksIn (image .entry) container) (readObjectMap container address) ⌝ }
 {
-    let seen = blocks::object_block(image, container, a);
+    let seen = blocks::object_block(image, container, address);
     match seen {
-        Seen::Refused(r) => Root::Refused(r),
-        Seen::There => {
-            let object = blocks::block(image, container.size, a.0);
+        Presence::Refused(r) => AddressAnswer::Refused(r),
+        Presence::There => {
+            let object = blocks::block(image, container.size, address);
             if fields::kind(object) != OBJECT_MAP {
-                return Root::Refused(Refusal::WrongKind);
+                return AddressAnswer::Refused(Refusal::WrongKind);
             }
-            if fields::u32_of(object, TREE_TYPE) / STORAGE != PHYSICAL {
-                return Root::Refused(Refusal::WrongKind);
+            if fields::u32_of(object, TREE_TYPE) >> STORAGE != PHYSICAL {
+                return AddressAnswer::Refused(Refusal::WrongKind);
             }
-            Root::At(Address(fields::u64_of(object, TREE_ROOT)))
+            AddressAnswer::Given(Address(fields::u64_of(object, TREE_ROOT)))
         }
     }
 }
 
 // Whether a tree is such as an object map has.
-fn is_map(d: Description) -> bool
-    ensures { λ r. ⌜ r ≡ (bit 4 (d .flags) && eqb (d .key) 16 && eqb (d .value) 16) ⌝ }
+fn is_map(description: Description) -> bool
+    ensures { λ r. ⌜ r ≡ (bit 4 (description .flags) && eqb (description .key) 16 && eqb (description .value) 16) ⌝ }
 {
-    if d.flags / PHYSICAL_TREE % 2 != 1 {
+    if !fields::has_bit(description.flags, PHYSICAL_TREE) {
         return false;
     }
-    if d.key != PAIR_SIZE {
-        return false;
-    }
-    d.value == PAIR_SIZE
+    description.key == PAIR_SIZE && description.value == PAIR_SIZE
 }
 
 // What a root says of its tree, which must be an object map's.
-pub fn describe_map(node: &[u8]) -> Described
-    ensures { λ r. ⌜ ((f : ℕ → List ℕ) → describedAs r ≡ run f (describeMap (now (node .entry)))) ⌝ }
+fn describe_map(node: &[u8]) -> DescriptionAnswer
+    ensures { λ r. ⌜ Always (descriptionAs r) (describeMap (bytes node)) ⌝ }
 {
     let described = describe(node);
     match described {
-        Described::Refused(r) => Described::Refused(r),
-        Described::As(d) => {
+        DescriptionAnswer::Refused(r) => DescriptionAnswer::Refused(r),
+        DescriptionAnswer::Given(d) => {
             if !is_map(d) {
-                return Described::Refused(Refusal::BadNode);
+                return DescriptionAnswer::Refused(Refusal::BadNode);
             }
-            Described::As(d)
+            DescriptionAnswer::Given(d)
         }
     }
 }
 
 // The address of the tree's root, once the root is read and says what tree it has.
-pub fn load_object_map(image: &[u8], container: Container, a: Address) -> Root
-    ensures { λ r. ⌜ rootAs r ≡ run (blockOf (now (image .entry)) (container .size)) (loadObjectMap container a) ⌝ }
+pub fn load_object_map(image: &[u8], container: Container, address: Address) -> AddressAnswer
+    ensures { λ r. ⌜ addressAs r ≡ run (blocksIn (image .entry) container) (loadObjectMap container address) ⌝ }
 {
-    let found = read_object_map(image, container, a);
+    let found = read_object_map(image, container, address);
     match found {
-        Root::Refused(r) => Root::Refused(r),
-        Root::At(root) => {
+        AddressAnswer::Refused(r) => AddressAnswer::Refused(r),
+        AddressAnswer::Given(root) => {
             let seen = read_node(image, container, root);
             match seen {
-                Seen::Refused(r) => Root::Refused(r),
-                Seen::There => {
-                    let node = blocks::block(image, container.size, root.0);
+                Presence::Refused(r) => AddressAnswer::Refused(r),
+                Presence::There => {
+                    let node = blocks::block(image, container.size, root);
                     let described = describe_map(node);
                     match described {
-                        Described::Refused(r) => Root::Refused(r),
-                        Described::As(_) => Root::At(root),
+                        DescriptionAnswer::Refused(r) => AddressAnswer::Refused(r),
+                        DescriptionAnswer::Given(_) => AddressAnswer::Given(root),
                     }
                 }
             }

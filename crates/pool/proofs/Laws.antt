@@ -16,8 +16,8 @@ use Rattle.blocks.specs.Blocks.{blockOf}
 use Rattle.blocks.specs.declared.Container.{Container}
 use Rattle.block_map.specs.BlockMap.{usedAt}
 use Rattle.pool.specs.Pool.{Pool, poolIndex, poolMarked, unusedFrom}
-use Rattle.pool.specs.Unused.{unusedOne}
-use Rattle.pool.specs.Place.{ringPlace, bitmapBlock, blockIn, bitmapByte, bitmapBytes, bitmapIn, PartOf}
+use Rattle.pool.specs.contracts.Unused.{unusedOne}
+use Rattle.pool.specs.contracts.Place.{ringPlace, bitmapBlock, blockIn, bitmapByte, bitmapBytes, bitmapIn, PartOf}
 use Rattle.pool.specs.declared.PoolPlace.{PoolPlace}
 
 -- as many bytes as the bitmap's blocks have, each where its block is

@@ -12,23 +12,24 @@ use lib.ListN.{length, getD}
 use lib.Seq.{ext-getD}
 use borrow.Author.Tests.{ltb-true, lt-leb, le-leb, lt-ltb, le-ltb}
 use Rattle.blocks.specs.Reads.{done, Outcome, run, given, refused, _>>=_, need}
-use Rattle.blocks.specs.Blocks.{blockOf, Holds, readRaw, sum}
+use Rattle.blocks.specs.Blocks.{blockOf, readRaw, sum}
+use Rattle.blocks.specs.contracts.Images.{Holds}
 use Rattle.blocks.specs.declared.Address.{Address}
 use Rattle.blocks.specs.declared.Container.{Container}
 use Rattle.blocks.specs.declared.Refusal.{Refusal}
 use Rattle.blocks.specs.declared.Refusal.the-variants.{PastContainer, BadBitmap, Overflow}
-use Rattle.blocks.specs.Answers.{seenAs}
-use Rattle.blocks.specs.declared.Seen.{Seen}
-use Rattle.blocks.specs.declared.Seen.the-variants.{There, Refused}
+use Rattle.blocks.specs.contracts.Answers.{thereAs}
+use Rattle.blocks.specs.declared.Presence.{Presence}
+use Rattle.blocks.specs.declared.Presence.the-variants.{There, Refused}
 use Rattle.blocks.proofs.Laws.{then-given, then-refused, need-true, need-false, need-held, both, block-length}
 use Rattle.manager.specs.Manager.{poolBase, poolBlocks, poolRingBase, poolBitmaps, poolIndicesAt}
-use Rattle.manager.specs.Place.{placed}
-use Rattle.manager.specs.Lists.{values, IndicesSeen}
+use Rattle.manager.specs.contracts.Place.{placed}
+use Rattle.manager.specs.contracts.Lists.{values, IndicesSeen}
 use Rattle.manager.specs.declared.Manager.{Manager}
 use Rattle.manager.proofs.ListLaws.{values-length, values-at}
-use Rattle.pool.specs.Pool.{Pool, bitmapsFrom, loadPool}
-use Rattle.pool.specs.Place.{ringPlace, bitmapBlock, bitmapByte, bitmapBytes, bitmapIn, poolIn}
-use Rattle.pool.specs.Load.{placeIn, joined, places, BitmapSeen, BitmapsSeen, poolFrom}
+use Rattle.pool.specs.Pool.{Pool, bitmapsFrom, poolFrom, loadPool}
+use Rattle.pool.specs.contracts.Place.{ringPlace, bitmapBlock, bitmapByte, bitmapBytes, bitmapIn, poolIn}
+use Rattle.pool.specs.contracts.Load.{placeIn, joined, places, BitmapSeen, BitmapsSeen}
 use Rattle.pool.specs.declared.PoolPlace.{PoolPlace}
 use Rattle.pool.proofs.Laws.{bytes-length, bytes-at, bitmap-length}
 
@@ -60,7 +61,7 @@ module _ (f : ℕ → List ℕ) (c : Container) (p : PoolPlace) (n i : ℕ) wher
   unfolding joined
   left-first = rw (sub-zero, add-zero) refl
 
-  module _ (h : i < n) (left : Left f c p n i) (s : Seen) (goes : BitmapSeen f c p i s) where
+  module _ (h : i < n) (left : Left f c p n i) (s : Presence) (goes : BitmapSeen f c p i s) where
     abbrev sm : List ℕ
     sm = placed f (c .size) (p .manager)
 
@@ -165,9 +166,9 @@ has-bits size n blocks some h = go (decLt ((blocks - 1) / 8 / size) n)
 -- the pool, by what was seen of its bitmap
 
 abbrev pub PoolRead : (ℕ → List ℕ) → Container → PoolPlace → Outcome Pool → Type 0
-PoolRead f c p o = o ≡ run f (poolFrom c p (places f (c .size) p (p .bitmaps)))
+PoolRead f c p o = o ≡ run f (poolFrom c (p .ring) (p .base) (p .blocks) (places f (c .size) p (p .bitmaps)))
 
-module _ (image : List ℕ) (c : Container) (p : PoolPlace) (s : Seen) (seen : BitmapsSeen (blockOf image (c .size)) c p (p .bitmaps) s) where
+module _ (image : List ℕ) (c : Container) (p : PoolPlace) (s : Presence) (seen : BitmapsSeen (blockOf image (c .size)) c p (p .bitmaps) s) where
   abbrev f : ℕ → List ℕ
   f = blockOf image (c .size)
 
@@ -196,12 +197,12 @@ pub place-read : (sm : List ℕ) (m : Manager) (base blocks ring bitmaps indices
 place-read sm m base blocks ring bitmaps indices p q r b i = rw (p, q, r, b, i) refl
 
 -- the pool, by what was seen of its list of indices
-module _ (f : ℕ → List ℕ) (c : Container) (m : Manager) (s : Seen) (seen : IndicesSeen (placed f (c .size) m) s) where
+module _ (f : ℕ → List ℕ) (c : Container) (m : Manager) (s : Presence) (seen : IndicesSeen (placed f (c .size) m) s) where
   pub load-refused : (r : Refusal) → s ≡ Refused r → refused r ≡ run f (loadPool c (placed f (c .size) m))
   unfolding loadPool
   load-refused r q = sym (then-refused f _ _ r (sym (rw q at (seen f))))
 
-  pub load-there : s ≡ There → (p : PoolPlace) → p ≡ placeIn (placed f (c .size) m) m → (r : Seen) → PoolRead f c p (seenAs (poolIn f (c .size) p) r)
-      → seenAs (poolIn f (c .size) (placeIn (placed f (c .size) m) m)) r ≡ run f (loadPool c (placed f (c .size) m))
-  unfolding loadPool poolFrom
+  pub load-there : s ≡ There → (p : PoolPlace) → p ≡ placeIn (placed f (c .size) m) m → (r : Presence) → PoolRead f c p (thereAs (poolIn f (c .size) p) r)
+      → thereAs (poolIn f (c .size) (placeIn (placed f (c .size) m) m)) r ≡ run f (loadPool c (placed f (c .size) m))
+  unfolding loadPool
   load-there q p e r a = (rw e at a) ∙ sym (then-given f _ _ _ (sym (rw q at (seen f))))

@@ -1,5 +1,3 @@
 -- The internal pool and its bitmap.
 pub mod Pool
-pub mod Place
-pub mod Load
-pub mod Unused
+pub mod contracts

@@ -1,18 +1,15 @@
--- Laws of fields that must exist, and of an entry's blocks: what each step of a definition gives, by the answer before it.
+-- Laws of an entry's blocks and of a queue's nodes: what each step of a definition gives, by the answer before it.
 use mathlib.Core.Path.{_≡_, refl, _∙_}
 use mathlib.Core.List.{List}
 use Prim.Native.Nat.{ℕ}
-use Rattle.fields.specs.Fields.{fieldAt}
-use Rattle.fields.specs.declared.Field.{Field}
-use Rattle.fields.specs.declared.Field.the-variants as found
 use Rattle.blocks.specs.Reads.{run, given, refused}
-use Rattle.blocks.specs.Blocks.{present, field}
+use Rattle.blocks.specs.Blocks.{field}
 use Rattle.blocks.specs.declared.Container.{Container}
 use Rattle.blocks.specs.declared.Refusal.{Refusal}
-use Rattle.blocks.specs.declared.Refusal.the-variants.{OutsideBytes, Unmapped}
+use Rattle.blocks.specs.declared.Refusal.the-variants.{Unmapped}
 use Rattle.blocks.proofs.Laws.{then-given, then-refused}
 use Rattle.nodes.specs.Node.{Entry, readNode}
-use Rattle.nodes.specs.Answers.{partIn, valueIn}
+use Rattle.nodes.specs.contracts.Answers.{partIn, valueIn}
 use Rattle.nodes.specs.declared.Part.{Part}
 use Rattle.nodes.specs.declared.Value.{Value}
 use Rattle.nodes.specs.declared.Value.the-variants.{Ghost, At}
@@ -20,16 +17,6 @@ use Rattle.checkpoint.specs.declared.Mapping.{Mapping}
 use Rattle.checkpoint.specs.declared.Mapped.{Mapped}
 use Rattle.checkpoint.specs.declared.Mapped.the-variants.{To, Nowhere}
 use Rattle.queue.specs.Queue.{runCount, runOf, nodeBy}
-
--- a field, by what a reader of it found
-module _ (f : ℕ → List ℕ) (w : ℕ) (b : List ℕ) (off : ℕ) (r : Field) (is : r ≡ fieldAt w b off) where
-  pub field-value : (v : ℕ) → r ≡ found.Value v → run f (field w b off) ≡ given v
-  unfolding run field present
-  field-value v e = rw (← is, e)
-
-  pub field-none : r ≡ found.Absent → run f (field w b off) ≡ refused OutsideBytes
-  unfolding run field present
-  field-none e = rw (← is, e)
 
 -- how many blocks a value tells of
 module _ (f : ℕ → List ℕ) (b : List ℕ) (v : Value) where

@@ -1,3 +1,3 @@
--- Free queues, and what the code's answers stand for.
+-- Free queues.
 pub mod Queue
-pub mod Answers
+pub mod contracts

@@ -1,25 +1,23 @@
 // The entries of a free queue, and the nodes that its tree leads to.
 use blocks::Address;
+use blocks::AddressAnswer;
 use blocks::Container;
+use blocks::NumberAnswer;
 use blocks::ObjectId;
+use blocks::Presence;
 use blocks::Refusal;
-use blocks::Seen;
-use checkpoint::Geometry;
+use checkpoint::Checkpoint;
 use checkpoint::Mapped;
-use fields::Field;
-use nodes::Part;
-use nodes::Places;
+use nodes::EntryPlace;
 use nodes::Value;
-ghost use mathlib.Core.Path.{_≡_};
-ghost use mathlib.Core.List.{List};
-ghost use Prim.Native.Nat.{ℕ};
-ghost use Rattle.blocks.specs.Reads.{run};
-ghost use Rattle.blocks.specs.Blocks.{blockOf, field};
+use nodes::entries::field_in;
+ghost use Rattle.blocks.specs.contracts.Images.{bytes};
+ghost use Rattle.blocks.specs.contracts.Answers.{numberAs, Always, Finds};
 ghost use Rattle.nodes.specs.Node.{readNode};
-ghost use Rattle.nodes.specs.Answers.{partIn, valueIn};
-ghost use Rattle.checkpoint.specs.InPlace.{lookupIn};
+ghost use Rattle.nodes.specs.contracts.Answers.{valueIn, entryIn};
+ghost use Rattle.checkpoint.specs.contracts.InPlace.{mappedIn};
 ghost use Rattle.queue.specs.Queue.{runCount, runOf, nodeBy};
-ghost use Rattle.queue.specs.Answers.{gotAs, placesIn, ranAs, childIn};
+ghost use Rattle.queue.specs.contracts.Answers.{runAs};
 
 // The address in a key, and the count in a value.
 const ADDRESS: usize = 8;
@@ -34,82 +32,61 @@ pub struct Run {
     pub count: u64,
 }
 
-// A field that must exist.
-pub enum Got {
-    Value(u64),
+pub enum RunAnswer {
+    Given(Run),
     Refused(Refusal),
 }
 
-pub enum Ran {
-    As(Run),
-    Refused(Refusal),
-}
-
-// The block of a node that may be read.
-pub enum Child {
-    At(u64),
-    Refused(Refusal),
-}
-
-// The field of eight bytes from at on in a key, or a value, cut from the middle of its node.
-pub fn field_in(node: &[u8], p: Part, at: usize) -> Got
-    ensures { λ r. ⌜ ((f : ℕ → List ℕ) → gotAs r ≡ run f (field 8 (partIn (now (node .entry)) p) at)) ⌝ }
-{
-    let found = fields::u64_in(node, p.at as usize, p.len as usize, at);
-    match found {
-        Field::Value(v) => Got::Value(v),
-        Field::Absent => Got::Refused(Refusal::OutsideBytes),
-    }
-}
-
-fn run_count(node: &[u8], value: Value) -> Got
-    ensures { λ r. ⌜ ((f : ℕ → List ℕ) → gotAs r ≡ run f (runCount (valueIn (now (node .entry)) value))) ⌝ }
+// How many blocks a value counts.
+fn run_count(node: &[u8], value: Value) -> NumberAnswer
+    ensures { λ r. ⌜ Always (numberAs r) (runCount (valueIn (bytes node) value)) ⌝ }
 {
     match value {
-        Value::Ghost => Got::Value(GHOST_COUNT),
+        Value::Ghost => NumberAnswer::Given(GHOST_COUNT),
         Value::At(p) => field_in(node, p, COUNT),
     }
 }
 
-pub fn run_of(node: &[u8], e: Places) -> Ran
-    ensures { λ r. ⌜ ((f : ℕ → List ℕ) → ranAs r ≡ run f (runOf (placesIn (now (node .entry)) e))) ⌝ }
+pub fn run_of(node: &[u8], place: EntryPlace) -> RunAnswer
+    ensures { λ r. ⌜ Always (runAs r) (runOf (entryIn (bytes node) place)) ⌝ }
 {
-    let key = e.key;
-    let value = e.value;
+    let key = place.key;
+    let value = place.value;
     let address = field_in(node, key, ADDRESS);
     match address {
-        Got::Refused(r) => Ran::Refused(r),
-        Got::Value(start) => {
+        NumberAnswer::Refused(r) => RunAnswer::Refused(r),
+        NumberAnswer::Given(start) => {
             let counted = run_count(node, value);
             match counted {
-                Got::Refused(r) => Ran::Refused(r),
-                Got::Value(count) => Ran::As(Run { start, count }),
+                NumberAnswer::Refused(r) => RunAnswer::Refused(r),
+                NumberAnswer::Given(count) => RunAnswer::Given(Run { start, count }),
             }
         }
     }
 }
 
-// A child named by its address.
-pub fn child_at(image: &[u8], container: Container, a: Address) -> Child
-    ensures { λ r. ⌜ childIn (blockOf (now (image .entry)) (container .size)) r ≡ run (blockOf (now (image .entry)) (container .size)) (readNode container a) ⌝ }
+// The node at an address, if it may be read.
+fn node_at(image: &[u8], container: Container, address: Address) -> AddressAnswer
+    ensures { λ r. ⌜ Finds image container r (λ f. readNode container address) ⌝ }
 {
-    let seen = nodes::node::read_node(image, container, a);
+    let seen = nodes::node::read_node(image, container, address);
     match seen {
-        Seen::Refused(r) => Child::Refused(r),
-        Seen::There => Child::At(a.0),
+        Presence::Refused(r) => AddressAnswer::Refused(r),
+        Presence::There => AddressAnswer::Given(address),
     }
 }
 
-// A child named by its id, which the map of the superblock sb must have.
-pub fn node_by(image: &[u8], container: Container, g: Geometry, sb: &[u8], id: ObjectId) -> Child
-    ensures { λ r. ⌜ childIn (blockOf (now (image .entry)) (container .size)) r ≡ run (blockOf (now (image .entry)) (container .size)) (nodeBy container (lookupIn (blockOf (now (image .entry)) (g .size)) g (now (sb .entry)) id)) ⌝ }
+// A child named by its id, which the checkpoint's map must have.
+pub fn node_by(image: &[u8], checkpoint: Checkpoint, id: ObjectId) -> AddressAnswer
+    ensures { λ r. ⌜ Finds image (checkpoint .container) r (λ f. nodeBy (checkpoint .container) (mappedIn f checkpoint id)) ⌝ }
 {
-    let mapped = checkpoint::chain::lookup(image, g, sb, id);
+    let container = checkpoint.container;
+    let mapped = checkpoint::chain::lookup(image, checkpoint, id);
     match mapped {
-        Mapped::Nowhere => Child::Refused(Refusal::Unmapped),
+        Mapped::Nowhere => AddressAnswer::Refused(Refusal::Unmapped),
         Mapped::To(m) => {
             let a = m.address;
-            child_at(image, container, a)
+            node_at(image, container, a)
         }
     }
 }

@@ -10,8 +10,8 @@ use Rattle.blocks.specs.Blocks.{sum}
 use Rattle.blocks.proofs.Laws.{run-bind, sum-fits, sum-passes}
 use Rattle.blocks.specs.declared.Refusal.the-variants.{Overflow}
 use Rattle.report.specs.Report.{logged, note}
-use Rattle.report.specs.Steps.{Logged}
-use Rattle.report.specs.declared.Step.the-variants.{Done, Refused}
+use Rattle.report.specs.contracts.Steps.{Logged}
+use Rattle.report.specs.declared.Ending.the-variants.{Done, Refused}
 
 -- where x stands in a log with room, and in a full one
 module _ {A : Type 0} (total : ℕ) (x : A) (first : List A) where

@@ -1,3 +1,3 @@
 -- Logs, the report, and what a pass answers.
 pub mod Report
-pub mod Steps
+pub mod contracts

@@ -15,7 +15,7 @@ use Rattle.report.specs.declared.OverlapLog.{OverlapLog}
 use Rattle.report.specs.declared.Report.{Report}
 use Rattle.report.specs.declared.Answer.{Answer}
 use Rattle.report.specs.declared.Ending.{Ending}
-use Rattle.report.specs.declared.Ending.the-variants.{Reported, Refused}
+use Rattle.report.specs.declared.Ending.the-variants.{Done, Refused}
 
 -- "the first ten"
 abbrev pub logged : ℕ
@@ -69,9 +69,9 @@ unfoldable pub refusal : Refusal → Answer
 refusal r = record { ending = Refused r; report = zeroReport }
 
 unfoldable pub reported : Report → Answer
-reported r = record { ending = Reported; report = r }
+reported r = record { ending = Done; report = r }
 
 -- the paper's number of an ending: 0 where there is a report
 unfoldable pub endingNumber : Ending → ℕ
-endingNumber Reported = 0
+endingNumber Done = 0
 endingNumber (Refused r) = numberOf r

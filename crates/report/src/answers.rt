@@ -8,8 +8,7 @@ use crate::logs::no_overlaps;
 use crate::logs::no_problems;
 use blocks::Refusal;
 ghost use mathlib.Core.Path.{_≡_};
-ghost use Rattle.report.specs.Report.{zeroReport};
-ghost use Rattle.report.specs.Report.{refusal as refusalAnswer, reported as reportedAnswer};
+ghost use Rattle.report.specs.Report.{zeroReport, refusal as refusalAnswer, reported as reportedAnswer};
 
 pub fn zero_report() -> Report
     ensures { λ r. ⌜ r ≡ zeroReport ⌝ }
@@ -34,17 +33,17 @@ pub fn zero_report() -> Report
 }
 
 // A refusal's report is all zero.
-pub fn refusal(r: Refusal) -> Answer
-    ensures { λ a. ⌜ a ≡ refusalAnswer r ⌝ }
+pub fn refusal(why: Refusal) -> Answer
+    ensures { λ a. ⌜ a ≡ refusalAnswer why ⌝ }
 {
     let report = zero_report();
-    let ending = Ending::Refused(r);
+    let ending = Ending::Refused(why);
     Answer { ending, report }
 }
 
 pub fn reported(report: Report) -> Answer
     ensures { λ a. ⌜ a ≡ reportedAnswer report ⌝ }
 {
-    let ending = Ending::Reported;
+    let ending = Ending::Done;
     Answer { ending, report }
 }

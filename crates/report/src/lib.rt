@@ -3,6 +3,7 @@ use blocks::Refusal;
 
 pub mod answers;
 pub mod logs;
+pub mod steps;
 
 // How many problems and overlaps a report names.
 pub const LOGGED: usize = 10;
@@ -39,20 +40,32 @@ pub struct Lost {
     pub first: u64,
 }
 
-// How a step that changes a log or a map ended.
-pub enum Step {
+// How a pass ended, or a step of it that doesn't move on.
+pub enum Ending {
     Done,
+    Refused(Refusal),
+}
+
+// Where a step along blocks, bits or entries has come to: the next of them, and how many are left.
+pub struct Cursor {
+    pub next: u64,
+    pub left: u64,
+}
+
+// A step that moves on, or why it doesn't. What it logs stands beside it, since logs hold arrays.
+pub enum Step {
+    On(Cursor),
     Refused(Refusal),
 }
 
 // A log after a step; where the step was refused, the log as it was.
 pub struct LoggedProblem {
-    pub step: Step,
+    pub ending: Ending,
     pub log: ProblemLog,
 }
 
 pub struct LoggedOverlap {
-    pub step: Step,
+    pub ending: Ending,
     pub log: OverlapLog,
 }
 
@@ -69,11 +82,6 @@ pub struct Report {
     pub lost: [Lost; KINDS],
     pub leaked: u64,
     pub verdict: u8,
-}
-
-pub enum Ending {
-    Reported,
-    Refused(Refusal),
 }
 
 // How a pass ended, and its report: all zero where it was refused.

@@ -1,4 +1,5 @@
 // The logs: all that was met is counted, and the first ten are kept.
+use crate::Ending;
 use crate::LOGGED;
 use crate::LoggedOverlap;
 use crate::LoggedProblem;
@@ -6,11 +7,10 @@ use crate::Overlap;
 use crate::OverlapLog;
 use crate::Problem;
 use crate::ProblemLog;
-use crate::Step;
 use blocks::Refusal;
 ghost use mathlib.Core.Path.{_≡_};
 ghost use Rattle.report.specs.Report.{noProblems, noOverlaps, addProblem, addOverlap};
-ghost use Rattle.report.specs.Steps.{Logged};
+ghost use Rattle.report.specs.contracts.Steps.{Logged};
 
 pub fn no_problems() -> ProblemLog
     ensures { λ r. ⌜ r ≡ noProblems ⌝ }
@@ -32,38 +32,38 @@ pub fn no_overlaps() -> OverlapLog
     OverlapLog { total: 0, first }
 }
 
-pub fn add_problem(log: ProblemLog, p: Problem) -> LoggedProblem
-    ensures { λ r. ⌜ Logged (r .step) log (r .log) (addProblem p log) ⌝ }
+pub fn add_problem(log: ProblemLog, problem: Problem) -> LoggedProblem
+    ensures { λ r. ⌜ Logged (r .ending) log (r .log) (addProblem problem log) ⌝ }
 {
     let problems = log.total;
     if problems == u64::MAX {
-        let step = Step::Refused(Refusal::Overflow);
-        return LoggedProblem { step, log };
+        let ending = Ending::Refused(Refusal::Overflow);
+        return LoggedProblem { ending, log };
     }
     let mut next = log;
     if problems < LOGGED as u64 {
         let i = problems as usize;
-        next.first[i] = p;
+        next.first[i] = problem;
     }
     next.total = problems + 1;
-    let step = Step::Done;
-    LoggedProblem { step, log: next }
+    let ending = Ending::Done;
+    LoggedProblem { ending, log: next }
 }
 
-pub fn add_overlap(log: OverlapLog, o: Overlap) -> LoggedOverlap
-    ensures { λ r. ⌜ Logged (r .step) log (r .log) (addOverlap o log) ⌝ }
+pub fn add_overlap(log: OverlapLog, overlap: Overlap) -> LoggedOverlap
+    ensures { λ r. ⌜ Logged (r .ending) log (r .log) (addOverlap overlap log) ⌝ }
 {
     let overlaps = log.total;
     if overlaps == u64::MAX {
-        let step = Step::Refused(Refusal::Overflow);
-        return LoggedOverlap { step, log };
+        let ending = Ending::Refused(Refusal::Overflow);
+        return LoggedOverlap { ending, log };
     }
     let mut next = log;
     if overlaps < LOGGED as u64 {
         let i = overlaps as usize;
-        next.first[i] = o;
+        next.first[i] = overlap;
     }
     next.total = overlaps + 1;
-    let step = Step::Done;
-    LoggedOverlap { step, log: next }
+    let ending = Ending::Done;
+    LoggedOverlap { ending, log: next }
 }

@@ -54,7 +54,7 @@ abbrev fresh : Marked Audit
 fresh = record { map = replicate 16 0; figures = record { problems = noProblems; free = 0; wrong = 0 } }
 
 abbrev chunk : ℕ → Chunk
-chunk bitmap = record { start = 0; blocks = 16; free = 6; bitmap = bitmap }
+chunk bitmap = record { start = 0; blocks = 16; free = 6; bitmap = record { 0 = bitmap } }
 
 -- the free blocks of a sixteen-block chunk whose bitmap's bytes are 0xff 0x03
 abbrev freeIn : ℕ → ℕ

@@ -2,136 +2,78 @@
 use mathlib.Core.Path.{_≡_, refl, sym, ap, _∙_}
 use mathlib.Core.Bool.{Bool, true, false, not, _||_}
 use mathlib.Core.List.{List}
-use Prim.Native.Nat.{ℕ, zero, suc, _+_, _-_, _≤_, _<_}
+use Prim.Native.Nat.{ℕ, zero, suc, _+_, _-_, _≤_, _<_, min}
 use native.Mathlib.Omega.{arith}
 use lib.Dec.{leb, eqb}
-use lib.ListN.{length, take, drop, replicate, length-replicate}
+use lib.ListN.{length, take, drop, replicate, length-replicate, length-append, length-drop}
 use lib.Seq.{drop-at}
 use Rattle.fields.specs.Choice.{pick}
 use Rattle.fields.specs.Fields.{bit}
 use Rattle.fields.specs.Header.{xidOf}
-use Rattle.blocks.specs.Blocks.{blockOf, Holds}
+use Rattle.blocks.specs.Blocks.{blockOf}
 use Rattle.blocks.specs.Reads.{Reads, done, noBlocks, Outcome, given, refused, run, _>>=_, need}
 use Rattle.blocks.specs.Refusals.{numberOf}
-use Rattle.blocks.proofs.Laws.{andThen, run-bind, then-given, need-held}
+use Rattle.blocks.specs.contracts.Images.{Holds}
 use Rattle.blocks.specs.declared.Address.{Address}
 use Rattle.blocks.specs.declared.Container.{Container}
 use Rattle.blocks.specs.declared.ObjectId.{ObjectId}
 use Rattle.blocks.specs.declared.Refusal.{Refusal}
 use Rattle.blocks.specs.declared.Refusal.the-variants.{NoCheckpoint, Incompatible, CountDiffers}
-use Rattle.nodes.specs.Node.{Entry, readNode, describe}
-use Rattle.nodes.specs.ObjectMap.{loadObjectMap}
-use Rattle.nodes.specs.Scan.{scan}
-use Rattle.checkpoint.specs.Superblock.{managerId, objectMapAddress, incompatible, blockCount}
+use Rattle.blocks.proofs.Laws.{then-given, need-held}
+use Rattle.checkpoint.specs.Superblock.{incompatible, blockCount}
 use Rattle.checkpoint.specs.Map.{chain, lookup}
-use Rattle.checkpoint.specs.InPlace.{lookupIn, loads, mapOf}
 use Rattle.checkpoint.specs.Checkpoint.{Taken, takeSuperblock, admit}
-use Rattle.checkpoint.specs.Answers.{takenIn}
 use Rattle.checkpoint.specs.Geometry.{leastSize, geometry}
-use Rattle.checkpoint.proofs.OpeningLaws.{geometry-given}
-use Rattle.checkpoint.proofs.ChainLaws.{lookup-in-place}
-use Rattle.checkpoint.proofs.SearchLaws.{tryLeft, next, take-tries, try-end, try-none, try-here, try-next, taken-given}
+use Rattle.checkpoint.specs.contracts.Answers.{takenIn}
+use Rattle.checkpoint.specs.contracts.InPlace.{mappedIn, loads}
 use Rattle.checkpoint.specs.declared.Best.{Best}
 use Rattle.checkpoint.specs.declared.Best.the-variants.{Superblock, Nothing}
 use Rattle.checkpoint.specs.declared.Candidate.{Candidate}
+use Rattle.checkpoint.specs.declared.Checkpoint.{Checkpoint}
 use Rattle.checkpoint.specs.declared.Geometry.{Geometry}
-use Rattle.checkpoint.specs.declared.Mapping.{Mapping}
 use Rattle.checkpoint.specs.declared.Mapped.{Mapped}
-use Rattle.checkpoint.specs.declared.Mapped.the-variants.{To, Nowhere}
-use Rattle.manager.specs.Manager.{manager, managerBy, chunkInfos, poolQueue, mainQueue}
+use Rattle.checkpoint.proofs.OpeningLaws.{geometry-given}
+use Rattle.checkpoint.proofs.ChainLaws.{lookup-in-place}
+use Rattle.checkpoint.proofs.SearchLaws.{tryLeft, next, take-tries, try-end, try-none, try-here, try-next, taken-given}
 use Rattle.block_map.specs.BlockMap.{Marked, cleared}
 use Rattle.block_map.proofs.Laws.{kept-cleared}
-use Rattle.report.specs.Report.{noOverlaps, refusal, reported}
+use Rattle.report.specs.Report.{refusal, reported}
+use Rattle.report.specs.contracts.Steps.{Stepped}
 use Rattle.report.specs.declared.Answer.{Answer}
-use Rattle.report.specs.declared.Step.{Step}
-use Rattle.report.specs.declared.Step.the-variants.{Done, Refused}
-use Rattle.report.specs.declared.OverlapLog.{OverlapLog}
+use Rattle.report.specs.declared.Ending.{Ending}
+use Rattle.report.specs.declared.Ending.the-variants.{Done, Refused}
 use Rattle.report.specs.declared.Report.{Report}
-use Rattle.pool.specs.Pool.{Pool, loadPool}
-use Rattle.queue.specs.Queue.{nodeBy, scanQueue, queue}
-use Rattle.audit.specs.Answers.{Stepped}
-use Rattle.audit.proofs.Laws.{stepped-done, stepped-refused}
-use Rattle.audit.specs.Audit.{auditInfos, auditQueued}
-use Rattle.audit.specs.declared.Audit.{Audit}
-use Rattle.claims.specs.Claims.{claim, claimQueued}
-use Rattle.trees.specs.Visits.{mappedIn, queueFrom, queueIn}
-use Rattle.trees.proofs.ScanLaws.{bind-assoc, bind-cong}
-use Rattle.trees.specs.declared.Checkpoint.{Checkpoint}
+use Rattle.report.proofs.StepLaws.{stepped-done, stepped-refused}
+use Rattle.space_check.specs.Check.{Result, lastUntouched, body, rest, pass, settle, checkIn, check}
+use Rattle.space_check.specs.contracts.Stages.{bodyOf, settleLate, resultOf, Ready}
 use Rattle.space_check.proofs.Late.{body-touches}
-use Rattle.space_check.specs.Check.{Result, lastUntouched, audit, claimAreas, claimObjects, claims, body, rest, pass, settle, checkIn, check}
-use Rattle.space_check.specs.Stages.{Parts, poolPart, managerPart, loadParts, auditFor, areaOf, superblockArea, poolArea, areasFrom, objectsFor, claimsFor, afterAudit, bodyFrom, bodyFor, settleLate, resultOf, Ready}
 
 same-refusal : {A : Type 0} (r x : Refusal) → _≡_ {A = Outcome A} (refused r) (refused x) → r ≡ x
 same-refusal r x e = cc
 
--- two sequences whose parts come to the same
-bind-both : {A B : Type 0} (f : ℕ → List ℕ) (p q : Reads A) (g h : A → Reads B) → run f p ≡ run f q → ((a : A) → run f (g a) ≡ run f (h a)) → run f (p >>= g) ≡ run f (q >>= h)
-bind-both f p q g h e k = run-bind f p g ∙ rw e (sym (run-bind f q g)) ∙ bind-cong f q g h k
-
-bind-done : {A : Type 0} (f : ℕ → List ℕ) (p : Reads A) → run f (p >>= λ a. done a) ≡ run f p
-unfolding run
-bind-done {A} f p = run-bind f p _ ∙ go (run f p)
-  where
-    go : (o : Outcome A) → andThen o (λ a. given a) ≡ o
-    go (given a) = refl
-    go (refused r) = refl
-
--- a queue whose ids are looked up in place
-module _ {S : Type 0} (c : Container) (map : List Mapping) (mapped : ℕ → Mapped) (same : (id : ℕ) → mapped id ≡ lookup (record { 0 = id }) map) (visit : S → Entry → Reads S) where
-  queue-same : (m : Mapped) (s : S) → queueFrom c mapped visit m s ≡ scanQueue c map visit s m
-  unfolding queueFrom scanQueue
-  queue-same Nowhere s = refl
-  queue-same (To m) s = ap (λ (g : ℕ → Mapped). readNode c (m .address) >>= λ b. describe b >>= λ d. scan visit d (λ id. nodeBy c (g id)) b s) (λ i id. same id i)
-
 -- the checkpoint that a pass takes, with the container that it was admitted to
-module _ (f : ℕ → List ℕ) (g : Geometry) (n xid : ℕ) (taken : run f (takeSuperblock g) ≡ given (takenIn f g n)) where
-  abbrev c : Container
-  c = record { size = g .size; count = g .count; xid = xid }
-
+module _ (f : ℕ → List ℕ) (g : Geometry) (a : Address) (c : Container) (taken : run f (takeSuperblock g) ≡ given (takenIn f g a)) where
   abbrev k : Checkpoint
-  k = record { container = c; base = g .base; ring = g .ring; superblock = n }
+  k = record { container = c; geometry = g; superblock = a }
 
   abbrev t : Taken
-  t = takenIn f g n
+  t = takenIn f g a
 
   -- what the map has for an id
-  mapped-same : (id : ℕ) → mappedIn f k id ≡ lookup (record { 0 = id }) (t .map)
-  mapped-same id = let is = taken-given f g t taken in lookup-in-place f g (f n) (is .loaded) (omega (arith, is .inside)) (record { 0 = id })
+  mapped-same : (id : ObjectId) → mappedIn f k id ≡ lookup id (t .map)
+  mapped-same id = let is = taken-given f g t taken in lookup-in-place f g (f (a .0)) (is .loaded) (omega (arith, is .inside)) id
 
-  queue-run : {S : Type 0} (visit : S → Entry → Reads S) (root : ObjectId) (s : S) → run f (queueIn f k visit root s) ≡ run f (queue c (t .map) visit root s)
-  unfolding queue
-  queue-run visit root s = ap (run f) (queue-same c (t .map) (mappedIn f k) mapped-same visit (mappedIn f k (root .0)) s ∙ ap (scanQueue c (t .map) visit s) (mapped-same (root .0)))
-
-  module _ (x : Parts) where
-    audit-run : (map : List ℕ) → run f (auditFor f k x map) ≡ run f (audit c t (x .sm) (x .pool) map)
-    unfolding auditFor audit
-    audit-run map = bind-assoc f (chunkInfos (x .sm)) _ _ ∙ bind-cong f (chunkInfos (x .sm)) _ _ (λ infos. bind-cong f (auditInfos c (x .pool) infos _) _ _ (λ s. queue-run (auditQueued c (x .pool)) (poolQueue (x .sm)) s))
-
-    areas-run : (s : Marked OverlapLog) → run f (areasFrom f k (x .sm) 6 1 s) ≡ run f (claimAreas c t (x .sm) s)
-    unfolding areasFrom areaOf superblockArea poolArea claimAreas
-    areas-run s₀ =
-        bind-cong f (claim c 1 _ _ s₀) _ _ (λ s₁. bind-cong f (claim c 2 _ _ s₁) _ _ (λ s₂. bind-cong f (claim c 3 _ _ s₂) _ _ (λ s₃. bind-cong f (claim c 4 _ _ s₃) _ _ (λ s₄. bind-cong f (claim c 5 _ _ s₄) _ _ (λ s₅. bind-done f (claim c 6 _ _ s₅))))))
-
-    claims-run : (map : List ℕ) → run f (claimsFor f k x map) ≡ run f (claims c t (x .sm) (x .root) map)
-    unfolding claimsFor objectsFor claims
-    claims-run map = bind-both f _ _ _ _ (areas-run _) (λ s₁. bind-cong f (claimObjects c (x .root) s₁) _ _ (λ s₂. queue-run (claimQueued c) (mainQueue (x .sm)) s₂))
-
-  pub body-run : (map : List ℕ) → run f (bodyFor f k (cleared (c .count) map)) ≡ run f (body t map c)
-  unfolding bodyFor bodyFrom afterAudit loadParts managerPart poolPart body manager _>>=_
-  body-run map =
-      bind-assoc f (loadObjectMap c (objectMapAddress (f n))) _ _
-      ∙ bind-cong f (loadObjectMap c (objectMapAddress (f n))) _ _ (λ root. bind-assoc f (managerBy c (f n) (mappedIn f k (managerId (f n) .0))) _ _
-      ∙ bind-both f (managerBy c (f n) (mappedIn f k (managerId (f n) .0))) _ _ _ (ap (λ (m : Mapped). run f (managerBy c (f n) m)) (mapped-same (managerId (f n) .0))) (λ sm. bind-assoc f (loadPool c sm) _ _
-      ∙ bind-cong f (loadPool c sm) _ _ (λ p. bind-both f _ _ _ _ (audit-run (record { root = root; sm = sm; pool = p }) _) (λ a. bind-both f _ _ _ _ (claims-run (record { root = root; sm = sm; pool = p }) _) (λ o. refl)))))
+  abbrev mapped : ObjectId → Mapped
+  mapped id = lookup id (t .map)
 
   -- where the body refuses, the map is zeroed
-  pub late : (map : List ℕ) → settle (g .count) map (run f (body t map c)) ≡ settleLate (g .count) map (run f (bodyFor f k (cleared (g .count) map)))
+  pub late : (map : List ℕ) → settle (c .count) map (run f (body c (f (a .0)) mapped (cleared (c .count) map))) ≡ settleLate (c .count) map (run f (bodyOf k f (cleared (c .count) map)))
   unfolding settle
-  late map = go (run f (body t map c)) refl ∙ ap (settleLate (g .count) map) (sym (body-run map))
+  late map = go (run f (body c (f (a .0)) mapped (cleared (c .count) map))) refl ∙ ap (λ (m : ObjectId → Mapped). settleLate (c .count) map (run f (body c (f (a .0)) m (cleared (c .count) map)))) (sym (λ i id. mapped-same id i))
     where
-      go : (o : Outcome (Marked Report)) → run f (body t map c) ≡ o → settle (g .count) map o ≡ settleLate (g .count) map o
+      go : (o : Outcome (Marked Report)) → run f (body c (f (a .0)) mapped (cleared (c .count) map)) ≡ o → settle (c .count) map o ≡ settleLate (c .count) map o
       go (given s) e = refl
-      go (refused r) e = rw (body-touches f t map c r e) refl
+      go (refused r) e = rw (body-touches c (f (a .0)) mapped f (cleared (c .count) map) r e) refl
 
 -- refusals before the body leave the map as it was
 abbrev IsEarly : Refusal → Type 0
@@ -149,7 +91,7 @@ tried-refused f g (suc left) last r e = go (next f g last) (λ d q. tried-refuse
         more z = omega arith
 
         on : (l : Bool) → loads (run f (chain g (f (g .base + d .at)))) ≡ l → IsEarly r
-        on true l = let never : given (takenIn f g (g .base + d .at)) ≡ refused r = sym (try-here f g (suc left) last d more b _ refl l) ∙ e in let z : _≡_ {A = ℕ} 0 1 = cc in absurd (omega arith)
+        on true l = let never : given (takenIn f g (record { 0 = g .base + d .at })) ≡ refused r = sym (try-here f g (suc left) last d more b _ refl l) ∙ e in let z : _≡_ {A = ℕ} 0 1 = cc in absurd (omega arith)
         on false l = let less : suc left - 1 ≡ left = omega arith in again d (rw less at (sym (try-next f g (suc left) last d more b _ refl l) ∙ e))
 
 pub take-early : (f : ℕ → List ℕ) (g : Geometry) (r : Refusal) → run f (takeSuperblock g) ≡ refused r → IsEarly r
@@ -177,18 +119,23 @@ admit-is f g taken cont e =
     let count = need-held f _ _ _ cont (flags .1) in
     let same : _≡_ {A = Outcome Container} (given (record { size = g .size; count = g .count; xid = xidOf (taken .sb) })) (given cont) = count .1 in cc
 
-module _ (image : List ℕ) (map : List ℕ) (g : Geometry) (n : ℕ) (cont : Container) (admitted : run (blockOf image (g .size)) (admit g (takenIn (blockOf image (g .size)) g n)) ≡ given cont) where
+module _ (image : List ℕ) (map : List ℕ) (g : Geometry) (a : Address) (cont : Container) (admitted : run (blockOf image (g .size)) (admit g (takenIn (blockOf image (g .size)) g a)) ≡ given cont) where
   pub ready-holds : Ready image map g → Holds image cont × (cont .count ≤ length map)
   ready-holds h = rw (admit-is _ g _ cont admitted) (record { some = h .some; words = h .words; fits = h .fits }, h .room)
 
-  pub taken-passes : run (blockOf image (g .size)) (takeSuperblock g) ≡ given (takenIn (blockOf image (g .size)) g n) → (x : Result)
-      → x ≡ settleLate (cont .count) map (run (blockOf image (cont .size)) (bodyFor (blockOf image (cont .size)) (record { container = cont; base = g .base; ring = g .ring; superblock = n }) (cleared (cont .count) map)))
-      → x ≡ settle (g .count) map (run (blockOf image (g .size)) (rest g map (takenIn (blockOf image (g .size)) g n)))
+  pub taken-passes : run (blockOf image (g .size)) (takeSuperblock g) ≡ given (takenIn (blockOf image (g .size)) g a) → (x : Result)
+      → x ≡ settleLate (cont .count) map (run (blockOf image (cont .size)) (bodyOf (record { container = cont; geometry = g; superblock = a }) (blockOf image (cont .size)) (cleared (cont .count) map)))
+      → x ≡ settle (g .count) map (run (blockOf image (g .size)) (rest g map (takenIn (blockOf image (g .size)) g a)))
   unfolding rest
   taken-passes taken x h =
       (rw (admit-is _ g _ cont admitted) at h)
-      ∙ sym (late (blockOf image (g .size)) g n _ taken map)
-      ∙ ap (settle (g .count) map) (sym (then-given (blockOf image (g .size)) (admit g (takenIn (blockOf image (g .size)) g n)) (body (takenIn (blockOf image (g .size)) g n) map) _ (admitted ∙ ap given (admit-is _ g _ cont admitted))))
+      ∙ sym (late (blockOf image (g .size)) g a _ taken map)
+      ∙ ap (settle (g .count) map) (sym (then-given (blockOf image (g .size)) (admit g (takenIn (blockOf image (g .size)) g a)) _ _ (admitted ∙ ap given (admit-is _ g _ cont admitted))))
+
+-- zeroing keeps a map's length
+length-cleared : (count : ℕ) (map : List ℕ) → count ≤ length map → length (cleared count map) ≡ length map
+unfolding cleared
+length-cleared count map h = rw (length-append, length-replicate {A = ℕ} count 0, length-drop) (omega arith)
 
 -- zeroing twice
 cleared-again : (count : ℕ) (map : List ℕ) → cleared count (cleared count map) ≡ cleared count map
@@ -196,15 +143,22 @@ unfolding cleared
 cleared-again count map = rw (drop-at (replicate count 0) (drop count map) count (length-replicate count 0)) refl
 
 -- the body, from a map that was cleared, as the code answers it
-module _ (f : ℕ → List ℕ) (check : Checkpoint) (map first second : List ℕ) (is : first ≡ cleared (check .container .count) map) (step : Step) (report : Report) (h : Stepped f (check .container .count) step first second report (bodyFor f check first)) where
-  pub late-refused : (r : Refusal) → step ≡ Refused r → (a : Answer) → a ≡ refusal r → (last : List ℕ) → last ≡ cleared (check .container .count) second
-      → resultOf a last ≡ settleLate (check .container .count) map (run f (bodyFor f check (cleared (check .container .count) map)))
-  late-refused r e a q last l =
-      let zero : last ≡ cleared (check .container .count) map = l ∙ kept-cleared _ _ _ (h .kept) ∙ ap (cleared (check .container .count)) is ∙ cleared-again _ map in
-      rw (q, zero, rw is at (stepped-refused h r e)) refl
+module _ (f : ℕ → List ℕ) (check : Checkpoint) (map first second : List ℕ) (room : check .container .count ≤ length map) (is : first ≡ cleared (min (check .container .count) (length map)) map) (ending : Ending) (report : Report) (h : Stepped f (check .container .count) ending first second report (bodyOf check f first)) where
+  first-is : first ≡ cleared (check .container .count) map
+  first-is = let all : min (check .container .count) (length map) ≡ check .container .count = omega arith in is ∙ rw all refl
 
-  pub late-done : step ≡ Done → (a : Answer) → a ≡ reported report → resultOf a second ≡ settleLate (check .container .count) map (run f (bodyFor f check (cleared (check .container .count) map)))
-  late-done e a q = rw (q, rw is at (stepped-done h e)) refl
+  pub late-refused : (r : Refusal) → ending ≡ Refused r → (a : Answer) → a ≡ refusal r → (last : List ℕ) → last ≡ cleared (min (check .container .count) (length second)) second
+      → resultOf a last ≡ settleLate (check .container .count) map (run f (bodyOf check f (cleared (check .container .count) map)))
+  late-refused r e a q last l =
+      let all : min (check .container .count) (length second) ≡ check .container .count = omega (arith, h .kept .long, cleared-long) in
+      let zero : last ≡ cleared (check .container .count) map = l ∙ rw all refl ∙ kept-cleared _ _ _ (h .kept) ∙ ap (cleared (check .container .count)) first-is ∙ cleared-again _ map in
+      rw (q, zero, rw first-is at (stepped-refused h r e)) refl
+    where
+      cleared-long : length first ≡ length map
+      cleared-long = rw first-is (length-cleared (check .container .count) map room)
+
+  pub late-done : ending ≡ Done → (a : Answer) → a ≡ reported report → resultOf a second ≡ settleLate (check .container .count) map (run f (bodyOf check f (cleared (check .container .count) map)))
+  late-done e a q = rw (q, rw first-is at (stepped-done h e)) refl
 
 -- block 0's part
 module _ (image map : List ℕ) where

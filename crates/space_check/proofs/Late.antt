@@ -21,14 +21,14 @@ use Rattle.blocks.specs.declared.Refusal.{Refusal}
 use Rattle.nodes.specs.Node.{Entry, isLeaf, isFixed, ghostOffset, parse, readNode, describe, fixedSlot, variableSlot, slot, valueOf, entry, pointer}
 use Rattle.nodes.specs.ObjectMap.{readObjectMap, describeMap, loadObjectMap}
 use Rattle.nodes.specs.Scan.{lookAt, leafFrom, indexFrom, scanNode, below, scan}
-use Rattle.nodes.specs.Walk.{Walked, childrenFrom, each, walkBelow, walk}
+use Rattle.nodes.specs.Walk.{Walked, childrenFrom, each, walkBelow, walk, childrenOf}
 use Rattle.nodes.specs.declared.Description.{Description}
 use Rattle.nodes.specs.declared.Slot.{Slot}
 use Rattle.checkpoint.specs.Checkpoint.{Taken}
 use Rattle.checkpoint.specs.declared.Mapping.{Mapping}
 use Rattle.checkpoint.specs.declared.Mapped.{Mapped}
 use Rattle.checkpoint.specs.declared.Mapped.the-variants.{To, Nowhere}
-use Rattle.manager.specs.Manager.{managerFrom, managerAt, managerBy, manager, listFrom}
+use Rattle.manager.specs.Manager.{managerFrom, managerAt, managerBy, manager, listFrom, accepted}
 use Rattle.manager.specs.Chunks.{chunksFrom}
 use Rattle.manager.specs.declared.Chunk.{Chunk}
 use Rattle.block_map.specs.BlockMap.{Marked, update, marked, ownerOf}
@@ -37,13 +37,13 @@ use Rattle.report.specs.declared.Problem.{Problem}
 use Rattle.report.specs.declared.ProblemLog.{ProblemLog}
 use Rattle.report.specs.declared.Overlap.{Overlap}
 use Rattle.report.specs.declared.OverlapLog.{OverlapLog}
-use Rattle.pool.specs.Pool.{Pool, bitmapsFrom, loadPool}
-use Rattle.queue.specs.Queue.{runCount, runOf, nodeBy, scanQueue, queue}
+use Rattle.pool.specs.Pool.{Pool, bitmapsFrom, loadPool, poolFrom}
+use Rattle.queue.specs.Queue.{runCount, runOf, nodeBy, scanQueue, queue, queueFrom}
 use Rattle.totals.specs.Totals.{unowned}
-use Rattle.audit.specs.Audit.{unless, markFrom, tally, auditBitmap, auditChunk, auditChunks, auditInfo, auditInfos, auditQueuedFrom, auditQueued}
+use Rattle.audit.specs.Audit.{unless, markFrom, tally, auditBitmap, auditChunk, auditChunks, auditInfo, auditInfos, auditQueuedFrom, auditQueued, auditUse, markSet, markBit, tallyBitmap, readBitmap, enterInfo, readInfo, auditDevice, auditQueuedBlock}
 use Rattle.audit.specs.declared.Audit.{Audit}
-use Rattle.claims.specs.Claims.{claimBlock, claimFrom, claim, claimNode, claimMapped, claimMapping, claimQueued}
-use Rattle.space_check.specs.Check.{audit, claimAreas, claimObjects, claims, body, lastUntouched}
+use Rattle.claims.specs.Claims.{claimBlock, claimFrom, claim, claimNode, claimMapped, claimMapping, claimQueued, mappedAddress, claimMappings}
+use Rattle.space_check.specs.Check.{audit, claimAreas, claimObjects, claims, body, lastUntouched, Parts, poolPart, managerPart, loadParts, claimTrees, claimAndReport, auditAndClaim}
 
 abbrev pub IsLate : Refusal → Type 0
 IsLate r = leb (numberOf r) lastUntouched ≡ false
@@ -230,13 +230,16 @@ module _ {S : Type 0} (visit : S → Address → Reads S) (c : Container) (d : D
   late-each down h [] w = late-done _
   late-each down h (a ∷ rest) w = late-bind _ _ (h a w) (late-each down h rest)
 
+  late-childrenOf : (down : ℕ → Walked S → Reads (Walked S)) → ((a : ℕ) (w : Walked S) → Late (down a w)) → (b : List ℕ) (w : Walked S) → Late (childrenOf visit c d down b w)
+  unfolding childrenOf
+  late-childrenOf down h b w = late-choose (isLeaf b) _ _ (late-done _) (late-bind _ _ (late-childrenFrom d b _ 0 []) (λ cs. late-each down h cs w))
+
   late-walkBelow : (levels a : ℕ) (w : Walked S) → Late (walkBelow visit c d levels a w)
   unfolding walkBelow
   late-walkBelow zero a w = late-refuse _ _ refl
   late-walkBelow (suc levels) a w =
       late-test _ _ _ refl (late-bind _ _ (late-readNode c _) (λ b.
-      late-bind _ _ (v _ _) (λ s.
-      late-choose (isLeaf b) _ _ (late-done _) (late-bind _ _ (late-childrenFrom d b _ 0 []) (λ cs. late-each _ (late-walkBelow levels) cs _)))))
+      late-bind _ _ (v _ _) (λ s. late-childrenOf _ (late-walkBelow levels) b _)))
 
   late-walk : (a : Address) (s : S) → Late (walk visit c d a s)
   unfolding walk
@@ -252,18 +255,22 @@ late-managerFrom c sb at (suc left) i found =
     late-bind _ _ (late-sum _ _) (λ a.
     late-bind _ _ (late-readRaw c _) (λ b. late-managerFrom c sb at left (i + 1) _))))
 
+late-accepted : (sm : List ℕ) → Late (accepted sm)
+unfolding accepted
+late-accepted sm = late-test _ _ _ refl (late-test _ _ _ refl (late-test _ _ _ refl (late-done _)))
+
 late-managerAt : (c : Container) (sb : List ℕ) (m : Mapping) → Late (managerAt c sb m)
 unfolding managerAt
-late-managerAt c sb m = late-bind _ _ (late-managerFrom c sb _ _ 0 []) (λ bs. late-test _ _ _ refl (late-test _ _ _ refl (late-test _ _ _ refl (late-done _))))
+late-managerAt c sb m = late-bind _ _ (late-managerFrom c sb _ _ 0 []) (λ bs. late-accepted _)
 
 late-managerBy : (c : Container) (sb : List ℕ) (m : Mapped) → Late (managerBy c sb m)
 unfolding managerBy
 late-managerBy c sb Nowhere = late-refuse _ _ refl
 late-managerBy c sb (To m) = late-managerAt c sb m
 
-late-manager : (c : Container) (t : Taken) → Late (manager c t)
+late-manager : (c : Container) (sb : List ℕ) (mapped : ObjectId → Mapped) → Late (manager c sb mapped)
 unfolding manager
-late-manager c t = late-managerBy c _ _
+late-manager c sb mapped = late-managerBy c _ _
 
 late-listFrom : (w : ℕ) (sm : List ℕ) (left off : ℕ) → Late (listFrom w sm left off)
 unfolding listFrom
@@ -282,9 +289,13 @@ unfolding bitmapsFrom
 late-bitmapsFrom c ring [] found = late-done _
 late-bitmapsFrom c ring (i ∷ is) found = late-bind _ _ (late-sum ring i) (λ a. late-bind _ _ (late-readRaw c _) (λ b. late-bitmapsFrom c ring is _))
 
+late-poolFrom : (c : Container) (ring base blocks : ℕ) (is : List ℕ) → Late (poolFrom c ring base blocks is)
+unfolding poolFrom
+late-poolFrom c ring base blocks is = late-bind _ _ (late-bitmapsFrom c ring is []) (λ bits. late-test _ _ _ refl (late-done _))
+
 late-loadPool : (c : Container) (sm : List ℕ) → Late (loadPool c sm)
 unfolding loadPool
-late-loadPool c sm = late-bind _ _ (late-listFrom _ sm _ _) (λ is. late-bind _ _ (late-bitmapsFrom c _ is []) (λ bits. late-test _ _ _ refl (late-done _)))
+late-loadPool c sm = late-bind _ _ (late-listFrom _ sm _ _) (λ is. late-poolFrom c _ _ _ is)
 
 -- logs
 
@@ -312,15 +323,19 @@ unfolding nodeBy
 late-nodeBy c Nowhere = late-refuse _ _ refl
 late-nodeBy c (To m) = late-readNode c _
 
-module _ {S : Type 0} (c : Container) (map : List Mapping) (visit : S → Entry → Reads S) (v : (s : S) (e : Entry) → Late (visit s e)) where
-  late-scanQueue : (s : S) (m : Mapped) → Late (scanQueue c map visit s m)
+module _ {S : Type 0} (c : Container) (mapped : ObjectId → Mapped) (visit : S → Entry → Reads S) (v : (s : S) (e : Entry) → Late (visit s e)) where
+  late-scanQueue : (b : List ℕ) (s : S) → Late (scanQueue c mapped visit b s)
   unfolding scanQueue
-  late-scanQueue s Nowhere = late-done _
-  late-scanQueue s (To m) = late-bind _ _ (late-readNode c _) (λ b. late-bind _ _ (late-describe b) (λ d. late-scan visit d _ v (λ id. late-nodeBy c _) b s))
+  late-scanQueue b s = late-bind _ _ (late-describe b) (λ d. late-scan visit d _ v (λ id. late-nodeBy c _) b s)
 
-  late-queue : (root : ObjectId) (s : S) → Late (queue c map visit root s)
+  late-queueFrom : (m : Mapped) (s : S) → Late (queueFrom c mapped visit m s)
+  unfolding queueFrom
+  late-queueFrom Nowhere s = late-done _
+  late-queueFrom (To m) s = late-bind _ _ (late-readNode c _) (λ b. late-scanQueue b s)
+
+  late-queue : (root : ObjectId) (s : S) → Late (queue c mapped visit root s)
   unfolding queue
-  late-queue root s = late-scanQueue s _
+  late-queue root s = late-queueFrom _ s
 
 -- the audit
 
@@ -329,51 +344,77 @@ unfolding unless
 late-unless true kind a s = late-done _
 late-unless false kind a s = late-bind _ _ (late-addProblem _ _) (λ l. late-done _)
 
+late-auditUse : (c : Container) (p : Pool) (unmarked inUse a : ℕ) (s : Marked Audit) → Late (auditUse c p unmarked inUse a s)
+unfolding auditUse
+late-auditUse c p unmarked inUse a s = late-bind _ _ (late-unless _ _ _ s) (λ s₁. late-unless _ _ _ s₁)
+
+late-markSet : (c : Container) (start i : ℕ) (s : Marked ℕ) → Late (markSet c start i s)
+unfolding markSet
+late-markSet c start i s = late-bind _ _ (late-sum _ _) (λ a. late-test _ _ _ refl (late-done _))
+
+late-markBit : (c : Container) (bits : List ℕ) (start i : ℕ) (s : Marked ℕ) → Late (markBit c bits start i s)
+unfolding markBit
+late-markBit c bits start i s = late-choose (bitAt bits i) _ _ (late-markSet c start i s) (late-done _)
+
 late-markFrom : (c : Container) (bits : List ℕ) (start left i : ℕ) (s : Marked ℕ) → Late (markFrom c bits start left i s)
 unfolding markFrom
 late-markFrom c bits start zero i s = late-done _
-late-markFrom c bits start (suc left) i s =
-    late-choose (bitAt bits i) _ _
-    (late-bind _ _ (late-sum _ _) (λ a. late-test _ _ _ refl (late-markFrom c bits start left (i + 1) (record { map = update marked a (s .map); figures = s .figures }))))
-    (late-markFrom c bits start left (i + 1) (record { map = s .map; figures = s .figures + 1 }))
+late-markFrom c bits start (suc left) i s = late-bind _ _ (late-markBit c bits start i s) (late-markFrom c bits start left (i + 1))
 
 late-tally : (ch : Chunk) (map : List ℕ) (a : Audit) (zeros : ℕ) → Late (tally ch map a zeros)
 unfolding tally
 late-tally ch map a zeros = late-bind _ _ (late-sum _ _) (λ f. late-bind _ _ (late-sum _ _) (λ w. late-done _))
 
+late-tallyBitmap : (c : Container) (ch : Chunk) (bits : List ℕ) (s : Marked Audit) → Late (tallyBitmap c ch bits s)
+unfolding tallyBitmap
+late-tallyBitmap c ch bits s = late-bind _ _ (late-markFrom c bits _ _ 0 _) (λ m. late-tally ch _ _ _)
+
+late-readBitmap : (c : Container) (ch : Chunk) (s : Marked Audit) → Late (readBitmap c ch s)
+unfolding readBitmap
+late-readBitmap c ch s = late-bind _ _ (late-readRaw c _) (λ b. late-test _ _ _ refl (late-tallyBitmap c ch b _))
+
 late-auditBitmap : (c : Container) (p : Pool) (ch : Chunk) (s : Marked Audit) → Late (auditBitmap c p ch s)
 unfolding auditBitmap
-late-auditBitmap c p ch s =
-    late-bind _ _ (late-unless _ _ _ s) (λ s₁.
-    late-bind _ _ (late-unless _ _ _ s₁) (λ s₂.
-    late-bind _ _ (late-readRaw c _) (λ b.
-    late-test _ _ _ refl (late-bind _ _ (late-markFrom c b _ _ 0 _) (λ m. late-tally ch _ _ _)))))
+late-auditBitmap c p ch s = late-bind _ _ (late-auditUse c p _ _ _ s) (late-readBitmap c ch)
 
 late-auditChunk : (c : Container) (p : Pool) (ch : Chunk) (s : Marked Audit) → Late (auditChunk c p ch s)
 unfolding auditChunk
-late-auditChunk c p ch s = late-choose (eqb (ch .bitmap) 0) _ _ (late-tally ch _ _ _) (late-auditBitmap c p ch s)
+late-auditChunk c p ch s = late-choose (eqb (ch .bitmap .0) 0) _ _ (late-tally ch _ _ _) (late-auditBitmap c p ch s)
 
 late-auditChunks : (c : Container) (p : Pool) (l : List Chunk) (s : Marked Audit) → Late (auditChunks c p l s)
 unfolding auditChunks
 late-auditChunks c p [] s = late-done _
 late-auditChunks c p (ch ∷ rest) s = late-bind _ _ (late-auditChunk c p ch s) (late-auditChunks c p rest)
 
-late-auditInfo : (c : Container) (p : Pool) (a : ℕ) (s : Marked Audit) → Late (auditInfo c p a s)
+late-enterInfo : (c : Container) (p : Pool) (a : Address) (s : Marked Audit) (b : List ℕ) → Late (enterInfo c p a s b)
+unfolding enterInfo
+late-enterInfo c p a s b = late-bind _ _ (late-chunksFrom b _ _) (λ chs. late-auditChunks c p chs _)
+
+late-readInfo : (c : Container) (p : Pool) (a : Address) (s : Marked Audit) → Late (readInfo c p a s)
+unfolding readInfo
+late-readInfo c p a s = late-bind _ _ (late-readRaw c _) (late-enterInfo c p a s)
+
+late-auditInfo : (c : Container) (p : Pool) (a : Address) (s : Marked Audit) → Late (auditInfo c p a s)
 unfolding auditInfo
-late-auditInfo c p a s =
-    late-bind _ _ (late-unless _ _ _ s) (λ s₁.
-    late-bind _ _ (late-readRaw c _) (λ b.
-    late-bind _ _ (late-chunksFrom b _ _) (λ chs. late-auditChunks c p chs _)))
+late-auditInfo c p a s = late-bind _ _ (late-unless _ _ _ s) (late-readInfo c p a)
 
 late-auditInfos : (c : Container) (p : Pool) (l : List ℕ) (s : Marked Audit) → Late (auditInfos c p l s)
 unfolding auditInfos
 late-auditInfos c p [] s = late-done _
-late-auditInfos c p (a ∷ rest) s = late-bind _ _ (late-auditInfo c p a s) (late-auditInfos c p rest)
+late-auditInfos c p (a ∷ rest) s = late-bind _ _ (late-auditInfo c p _ s) (late-auditInfos c p rest)
+
+late-auditDevice : (c : Container) (p : Pool) (sm : List ℕ) (s : Marked Audit) → Late (auditDevice c p sm s)
+unfolding auditDevice
+late-auditDevice c p sm s = late-bind _ _ (late-listFrom _ sm _ _) (λ infos. late-auditInfos c p infos s)
+
+late-auditQueuedBlock : (c : Container) (p : Pool) (a : ℕ) (s : Marked Audit) → Late (auditQueuedBlock c p a s)
+unfolding auditQueuedBlock
+late-auditQueuedBlock c p a s = late-bind _ _ (late-auditUse c p _ _ _ s) (λ s′. late-done _)
 
 late-auditQueuedFrom : (c : Container) (p : Pool) (left a : ℕ) (s : Marked Audit) → Late (auditQueuedFrom c p left a s)
 unfolding auditQueuedFrom
 late-auditQueuedFrom c p zero a s = late-done _
-late-auditQueuedFrom c p (suc left) a s = late-bind _ _ (late-unless _ _ _ s) (λ s₁. late-bind _ _ (late-unless _ _ _ s₁) (λ s₂. late-auditQueuedFrom c p left (a + 1) _))
+late-auditQueuedFrom c p (suc left) a s = late-bind _ _ (late-auditQueuedBlock c p a s) (late-auditQueuedFrom c p left (a + 1))
 
 late-auditQueued : (c : Container) (p : Pool) (s : Marked Audit) (e : Entry) → Late (auditQueued c p s e)
 unfolding auditQueued
@@ -396,18 +437,26 @@ late-claim : (c : Container) (kind start len : ℕ) (s : Marked OverlapLog) → 
 unfolding claim
 late-claim c kind start len s = late-bind _ _ (late-sum start len) (λ e. late-claimFrom kind _ start s)
 
-late-claimNode : (c : Container) (s : Marked OverlapLog) (a : Address) → Late (claimNode c s a)
+late-claimNode : (c : Container) (kind : ℕ) (s : Marked OverlapLog) (a : Address) → Late (claimNode c kind s a)
 unfolding claimNode
-late-claimNode c s a = late-claim c _ _ _ s
+late-claimNode c kind s a = late-claim c _ _ _ s
+
+late-mappedAddress : (key v : List ℕ) → Late (mappedAddress key v)
+unfolding mappedAddress
+late-mappedAddress key v = late-bind _ _ (late-field _ _ _) (λ x. late-bind _ _ (late-field _ _ _) (λ y. late-field _ _ _))
 
 late-claimMapped : (c : Container) (s : Marked OverlapLog) (key : List ℕ) (v : Option (List ℕ)) → Late (claimMapped c s key v)
 unfolding claimMapped
 late-claimMapped c s key none = late-done _
-late-claimMapped c s key (some v) = late-bind _ _ (late-field _ _ _) (λ x. late-bind _ _ (late-field _ _ _) (λ y. late-bind _ _ (late-field _ _ _) (λ a. late-claim c _ _ _ s)))
+late-claimMapped c s key (some v) = late-bind _ _ (late-mappedAddress key v) (λ a. late-claim c _ _ _ s)
 
 late-claimMapping : (c : Container) (s : Marked OverlapLog) (e : Entry) → Late (claimMapping c s e)
 unfolding claimMapping
 late-claimMapping c s e = late-claimMapped c s _ _
+
+late-claimMappings : (c : Container) (d : Description) (b : List ℕ) (s : Marked OverlapLog) → Late (claimMappings c d b s)
+unfolding claimMappings
+late-claimMappings c d b s = late-scan _ d _ (late-claimMapping c) (λ a. late-readNode c _) b s
 
 late-claimQueued : (c : Container) (s : Marked OverlapLog) (e : Entry) → Late (claimQueued c s e)
 unfolding claimQueued
@@ -415,46 +464,55 @@ late-claimQueued c s e = late-bind _ _ (late-runOf e) (λ r. late-claim c _ _ _ 
 
 -- the whole
 
-late-audit : (c : Container) (t : Taken) (sm : List ℕ) (p : Pool) (map : List ℕ) → Late (audit c t sm p map)
-unfolding audit
-late-audit c t sm p map = late-bind _ _ (late-listFrom _ sm _ _) (λ infos. late-bind _ _ (late-auditInfos c p infos _) (λ s. late-queue c _ _ (late-auditQueued c p) _ s))
+module _ (c : Container) (sb : List ℕ) (mapped : ObjectId → Mapped) where
+  late-loadParts : Late (loadParts c sb mapped)
+  unfolding loadParts managerPart poolPart
+  late-loadParts = late-bind _ _ (late-loadObjectMap c _) (λ root. late-bind _ _ (late-manager c sb mapped) (λ sm. late-bind _ _ (late-loadPool c sm) (λ p. late-done _)))
 
-late-claimAreas : (c : Container) (t : Taken) (sm : List ℕ) (s : Marked OverlapLog) → Late (claimAreas c t sm s)
-unfolding claimAreas
-late-claimAreas c t sm s =
-    late-bind _ _ (late-claim c _ _ _ s) (λ s₁.
-    late-bind _ _ (late-claim c _ _ _ s₁) (λ s₂.
-    late-bind _ _ (late-claim c _ _ _ s₂) (λ s₃.
-    late-bind _ _ (late-claim c _ _ _ s₃) (λ s₄.
-    late-bind _ _ (late-claim c _ _ _ s₄) (λ s₅. late-claim c _ _ _ s₅)))))
+  late-audit : (x : Parts) (map : List ℕ) → Late (audit c sb mapped x map)
+  unfolding audit
+  late-audit x map = late-bind _ _ (late-auditDevice c _ _ _) (λ s. late-queue c _ _ (late-auditQueued c _) _ s)
 
-late-claimObjects : (c : Container) (root : Address) (s : Marked OverlapLog) → Late (claimObjects c root s)
-unfolding claimObjects
-late-claimObjects c root s =
-    late-bind _ _ (late-readNode c root) (λ b.
-    late-bind _ _ (late-describe b) (λ d.
-    late-bind _ _ (late-walk _ c d (late-claimNode c) root s) (λ s₁.
-    late-scan _ d _ (late-claimMapping c) (λ a. late-readNode c _) b s₁)))
+  late-claimAreas : (sm : List ℕ) (s : Marked OverlapLog) → Late (claimAreas c sb mapped sm s)
+  unfolding claimAreas
+  late-claimAreas sm s =
+      late-bind _ _ (late-claim c _ _ _ s) (λ s₁.
+      late-bind _ _ (late-claim c _ _ _ s₁) (λ s₂.
+      late-bind _ _ (late-claim c _ _ _ s₂) (λ s₃.
+      late-bind _ _ (late-claim c _ _ _ s₃) (λ s₄.
+      late-bind _ _ (late-claim c _ _ _ s₄) (λ s₅. late-claim c _ _ _ s₅)))))
 
-late-claims : (c : Container) (t : Taken) (sm : List ℕ) (root : Address) (map : List ℕ) → Late (claims c t sm root map)
-unfolding claims
-late-claims c t sm root map =
-    late-bind _ _ (late-claimAreas c t sm _) (λ s₁.
-    late-bind _ _ (late-claimObjects c root s₁) (λ s₂. late-queue c _ _ (late-claimQueued c) _ s₂))
+  late-claimObjects : (root : Address) (s : Marked OverlapLog) → Late (claimObjects c sb mapped root s)
+  unfolding claimObjects
+  late-claimObjects root s =
+      late-bind _ _ (late-readNode c root) (λ b.
+      late-bind _ _ (late-describe b) (λ d.
+      late-bind _ _ (late-walk _ c d (late-claimNode c _) root s) (λ s₁. late-claimMappings c d b s₁)))
 
-pub late-body : (t : Taken) (map : List ℕ) (c : Container) → Late (body t map c)
-unfolding body
-late-body t map c =
-    late-bind _ _ (late-loadObjectMap c _) (λ root.
-    late-bind _ _ (late-manager c t) (λ sm.
-    late-bind _ _ (late-loadPool c sm) (λ p.
-    late-bind _ _ (late-audit c t sm p _) (λ a.
-    late-bind _ _ (late-claims c t sm root _) (λ o. late-done _)))))
+  late-claimTrees : (x : Parts) (s : Marked OverlapLog) → Late (claimTrees c sb mapped x s)
+  unfolding claimTrees
+  late-claimTrees x s = late-bind _ _ (late-claimObjects _ s) (λ s₁. late-queue c _ _ (late-claimQueued c) _ s₁)
 
-module _ (f : ℕ → List ℕ) (t : Taken) (map : List ℕ) (c : Container) (r : Refusal) (e : run f (body t map c) ≡ refused r) where
-  -- as the block map's rule tests it
-  pub body-touches : leb (numberOf r) lastUntouched ≡ false
-  body-touches = late-run f _ r (late-body t map c) e
+  late-claims : (x : Parts) (map : List ℕ) → Late (claims c sb mapped x map)
+  unfolding claims
+  late-claims x map = late-bind _ _ (late-claimAreas _ _) (late-claimTrees x)
 
-  pub body-late : lastUntouched < numberOf r
-  body-late = leb-false _ _ body-touches
+  late-claimAndReport : (x : Parts) (a : Marked Audit) → Late (claimAndReport c sb mapped x a)
+  unfolding claimAndReport
+  late-claimAndReport x a = late-bind _ _ (late-claims x _) (λ o. late-done _)
+
+  late-auditAndClaim : (map : List ℕ) (x : Parts) → Late (auditAndClaim c sb mapped map x)
+  unfolding auditAndClaim
+  late-auditAndClaim map x = late-bind _ _ (late-audit x map) (late-claimAndReport x)
+
+  pub late-body : (map : List ℕ) → Late (body c sb mapped map)
+  unfolding body
+  late-body map = late-bind _ _ late-loadParts (late-auditAndClaim map)
+
+  module _ (f : ℕ → List ℕ) (map : List ℕ) (r : Refusal) (e : run f (body c sb mapped map) ≡ refused r) where
+    -- as the block map's rule tests it
+    pub body-touches : leb (numberOf r) lastUntouched ≡ false
+    body-touches = late-run f _ r (late-body map) e
+
+    pub body-late : lastUntouched < numberOf r
+    body-late = leb-false _ _ body-touches

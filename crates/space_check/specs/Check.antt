@@ -9,58 +9,28 @@ use Rattle.blocks.specs.Blocks.{blockOf}
 use Rattle.blocks.specs.Refusals.{numberOf}
 use Rattle.blocks.specs.declared.Address.{Address}
 use Rattle.blocks.specs.declared.Container.{Container}
+use Rattle.blocks.specs.declared.ObjectId.{ObjectId}
 use Rattle.nodes.specs.Node.{readNode, describe}
-use Rattle.nodes.specs.Scan.{scan}
 use Rattle.nodes.specs.Walk.{walk}
 use Rattle.nodes.specs.ObjectMap.{loadObjectMap}
 use Rattle.checkpoint.specs.Superblock.{descriptorBase, descriptorBlocks, dataBase, dataBlocks, objectMapAddress, withoutTopBit}
 use Rattle.checkpoint.specs.Geometry.{geometry, leastSize}
+use Rattle.checkpoint.specs.Map.{lookup}
 use Rattle.checkpoint.specs.Checkpoint.{Taken, takeSuperblock, admit}
 use Rattle.checkpoint.specs.declared.Geometry.{Geometry}
-use Rattle.manager.specs.Manager.{manager, chunkInfos, deviceFree, poolBase, poolBlocks, poolRingBase, poolRingBlocks, poolQueue, mainQueue}
+use Rattle.checkpoint.specs.declared.Mapped.{Mapped}
+use Rattle.manager.specs.Manager.{manager, deviceFree, poolBase, poolBlocks, poolRingBase, poolRingBlocks, poolQueue, mainQueue}
 use Rattle.block_map.specs.BlockMap.{Marked, isUsed, cleared, countIn}
-use Rattle.report.specs.Report.{noProblems, noOverlaps, kinds, refusal, reported}
+use Rattle.report.specs.Report.{noOverlaps, kinds, refusal, reported}
 use Rattle.pool.specs.Pool.{Pool, loadPool, unusedFrom}
 use Rattle.queue.specs.Queue.{queue}
 use Rattle.totals.specs.Totals.{lostFrom, isLeaked, verdictOf}
-use Rattle.audit.specs.Audit.{auditInfos, auditQueued}
-use Rattle.claims.specs.Claims.{containerSuperblock, descriptorArea, dataArea, internalPool, poolBitmapRing, objectMap, claim, claimNode, claimMapping, claimQueued}
+use Rattle.audit.specs.Audit.{noAudit, auditDevice, auditQueued}
+use Rattle.claims.specs.Claims.{containerSuperblock, descriptorArea, dataArea, internalPool, poolBitmapRing, objectMap, objectMapNode, claim, claimNode, claimMappings, claimQueued}
 use Rattle.report.specs.declared.Answer.{Answer}
 use Rattle.audit.specs.declared.Audit.{Audit}
 use Rattle.report.specs.declared.OverlapLog.{OverlapLog}
 use Rattle.report.specs.declared.Report.{Report}
-
--- chunk-info blocks in the order of their list; "Then the pool queue (0)"
-unfoldable pub audit : Container → Taken → List ℕ → Pool → List ℕ → Reads (Marked Audit)
-audit c t sm p map = do
-  infos ← chunkInfos sm
-  s ← auditInfos c p infos (record { map = map; figures = record { problems = noProblems; free = 0; wrong = 0 } })
-  queue c (t .map) (auditQueued c p) (poolQueue sm) s
-
--- claims 1 to 6: "The areas are the taken superblock's; their lengths drop the top bit."
-unfoldable pub claimAreas : Container → Taken → List ℕ → Marked OverlapLog → Reads (Marked OverlapLog)
-claimAreas c t sm s₀ = do
-  s₁ ← claim c containerSuperblock 0 1 s₀
-  s₂ ← claim c descriptorArea (descriptorBase (t .sb)) (withoutTopBit (descriptorBlocks (t .sb))) s₁
-  s₃ ← claim c dataArea (dataBase (t .sb)) (withoutTopBit (dataBlocks (t .sb))) s₂
-  s₄ ← claim c internalPool (poolBase sm) (poolBlocks sm) s₃
-  s₅ ← claim c poolBitmapRing (poolRingBase sm) (poolRingBlocks sm) s₄
-  claim c objectMap (objectMapAddress (t .sb) .0) 1 s₅
-
--- claims 7 and 8: the nodes of the object map's tree, then its mappings
-unfoldable pub claimObjects : Container → Address → Marked OverlapLog → Reads (Marked OverlapLog)
-claimObjects c root s = do
-  b ← readNode c root
-  d ← describe b
-  s₁ ← walk (claimNode c) c d root s
-  scan (claimMapping c) d (λ a. readNode c (record { 0 = a })) b s₁
-
--- all claims; 9 is "free queue (pending release), from queue 1"
-unfoldable pub claims : Container → Taken → List ℕ → Address → List ℕ → Reads (Marked OverlapLog)
-claims c t sm root map = do
-  s₁ ← claimAreas c t sm (record { map = map; figures = noOverlaps })
-  s₂ ← claimObjects c root s₁
-  queue c (t .map) (claimQueued c) (mainQueue sm) s₂
 
 -- "A report holds: .." from the audit's figures, the claims' log and the block map that they left
 unfoldable pub reportOf : Container → List ℕ → Pool → Audit → OverlapLog → List ℕ → Report
@@ -81,19 +51,67 @@ reportOf c sm p a o map =
       verdict = verdictOf lost (o .total) (a .problems .total);
     }
 
--- "From here, at whichever read, test or sum comes first in the order above": refusals 12 to 22
-unfoldable pub body : Taken → List ℕ → Container → Reads (Marked Report)
-body t map c = do
-  root ← loadObjectMap c (objectMapAddress (t .sb))
-  sm ← manager c t
-  p ← loadPool c sm
-  a ← audit c t sm p (cleared (c .count) map)
-  o ← claims c t sm root (a .map)
-  done (record { map = o .map; figures = reportOf c sm p (a .figures) (o .figures) (o .map) })
+-- what a pass loads before it audits
+pub record Parts : Type 0 where
+  pub root : Address
+  pub sm : List ℕ
+  pub pool : Pool
+
+-- sb: the bytes of the taken superblock; mapped: what its checkpoint map has for an id
+module _ (c : Container) (sb : List ℕ) (mapped : ObjectId → Mapped) where
+  -- "Then the object map loads, then the space manager": and then the manager's pool
+  unfoldable pub poolPart : Address → List ℕ → Reads Parts
+  poolPart root sm = loadPool c sm >>= λ p. done (record { root = root; sm = sm; pool = p })
+
+  unfoldable pub managerPart : Address → Reads Parts
+  managerPart root = manager c sb mapped >>= poolPart root
+
+  unfoldable pub loadParts : Reads Parts
+  loadParts = loadObjectMap c (objectMapAddress sb) >>= managerPart
+
+  -- the chunks of the main device; "Then the pool queue (0)"
+  unfoldable pub audit : Parts → List ℕ → Reads (Marked Audit)
+  audit x map = auditDevice c (x .pool) (x .sm) (record { map = map; figures = noAudit }) >>= queue c mapped (auditQueued c (x .pool)) (poolQueue (x .sm))
+
+  -- claims 1 to 6: "The areas are the taken superblock's; their lengths drop the top bit."
+  unfoldable pub claimAreas : List ℕ → Marked OverlapLog → Reads (Marked OverlapLog)
+  claimAreas sm s₀ = do
+    s₁ ← claim c containerSuperblock 0 1 s₀
+    s₂ ← claim c descriptorArea (descriptorBase sb) (withoutTopBit (descriptorBlocks sb)) s₁
+    s₃ ← claim c dataArea (dataBase sb) (withoutTopBit (dataBlocks sb)) s₂
+    s₄ ← claim c internalPool (poolBase sm) (poolBlocks sm) s₃
+    s₅ ← claim c poolBitmapRing (poolRingBase sm) (poolRingBlocks sm) s₄
+    claim c objectMap (objectMapAddress sb .0) 1 s₅
+
+  -- claims 7 and 8: the nodes of the object map's tree, then its mappings
+  unfoldable pub claimObjects : Address → Marked OverlapLog → Reads (Marked OverlapLog)
+  claimObjects root s = do
+    b ← readNode c root
+    d ← describe b
+    s₁ ← walk (claimNode c objectMapNode) c d root s
+    claimMappings c d b s₁
+
+  -- claims 7 to 9; 9 is "free queue (pending release), from queue 1"
+  unfoldable pub claimTrees : Parts → Marked OverlapLog → Reads (Marked OverlapLog)
+  claimTrees x s = claimObjects (x .root) s >>= queue c mapped (claimQueued c) (mainQueue (x .sm))
+
+  unfoldable pub claims : Parts → List ℕ → Reads (Marked OverlapLog)
+  claims x map = claimAreas (x .sm) (record { map = map; figures = noOverlaps }) >>= claimTrees x
+
+  -- the claims and the report, once the audit is made
+  unfoldable pub claimAndReport : Parts → Marked Audit → Reads (Marked Report)
+  claimAndReport x a = claims x (a .map) >>= λ o. done (record { map = o .map; figures = reportOf c (x .sm) (x .pool) (a .figures) (o .figures) (o .map) })
+
+  unfoldable pub auditAndClaim : List ℕ → Parts → Reads (Marked Report)
+  auditAndClaim map x = audit x map >>= claimAndReport x
+
+  -- "From here, at whichever read, test or sum comes first in the order above": refusals 12 to 22, from a map whose bytes are cleared
+  unfoldable pub body : List ℕ → Reads (Marked Report)
+  body map = loadParts >>= auditAndClaim map
 
 -- what follows the choice of the superblock
 unfoldable pub rest : Geometry → List ℕ → Taken → Reads (Marked Report)
-rest g map t = admit g t >>= body t map
+rest g map t = admit g t >>= λ c. body c (t .sb) (λ id. lookup id (t .map)) (cleared (c .count) map)
 
 unfoldable pub pass : Geometry → List ℕ → Reads (Marked Report)
 pass g map = takeSuperblock g >>= rest g map

@@ -1,108 +1,95 @@
 // Claims 1 to 6: areas that the superblock and the manager name.
 use crate::Area;
 use blocks::Container;
+use checkpoint::Checkpoint;
 use checkpoint::superblock;
-use checkpoint::superblock::TOP_BIT;
 use claims::Claimed;
 use manager::Manager;
 use manager::offsets;
 use manager::place;
+use report::Ending;
 use report::OverlapLog;
-use report::Step;
-use trees::Checkpoint;
 ghost use mathlib.Core.Path.{_≡_};
-ghost use Rattle.blocks.specs.Blocks.{blockOf};
-ghost use Rattle.checkpoint.specs.Superblock.{objectMapAddress};
-ghost use Rattle.manager.specs.Place.{bytesOf};
-ghost use Rattle.claims.specs.Claims.{containerSuperblock};
-ghost use Rattle.claims.specs.Answers.{owned};
-ghost use Rattle.trees.specs.Answers.{WalksWhole};
-ghost use Rattle.space_check.specs.Stages.{superblockArea, poolArea, areaOf, areasFrom, areas};
+ghost use Rattle.blocks.specs.contracts.Images.{bytes};
+ghost use Rattle.manager.specs.contracts.Place.{managerOn};
+ghost use Rattle.trees.specs.contracts.Answers.{ClaimsAs};
+ghost use Rattle.space_check.specs.contracts.Stages.{superblockArea, poolArea, areaOf, areasOf};
 
 // The descriptor area and the data area.
-fn superblock_area(image: &[u8], k: Checkpoint, kind: u8) -> Area
-    ensures { λ r. ⌜ r ≡ superblockArea (blockOf (now (image .entry)) (k .container .size)) k kind ⌝ }
+fn superblock_area(sb: &[u8], kind: u8) -> Area
+    ensures { λ r. ⌜ r ≡ superblockArea (bytes sb) kind ⌝ }
 {
-    let container = k.container;
-    let sb = blocks::block(image, container.size, k.superblock);
     if kind == claims::DESCRIPTOR_AREA {
         return Area {
             start: superblock::descriptor_base(sb),
-            len: superblock::descriptor_blocks(sb) % TOP_BIT,
+            len: superblock::without_top_bit(superblock::descriptor_blocks(sb)),
         };
     }
     Area {
         start: superblock::data_base(sb),
-        len: superblock::data_blocks(sb) % TOP_BIT,
+        len: superblock::without_top_bit(superblock::data_blocks(sb)),
     }
 }
 
 // The pool, and the ring of its bitmap.
-fn pool_area(image: &[u8], container: Container, m: Manager, kind: u8) -> Area
-    ensures { λ r. ⌜ r ≡ poolArea (bytesOf (now (image .entry)) (container .size) m) kind ⌝ }
+fn pool_area(image: &[u8], container: Container, manager: Manager, kind: u8) -> Area
+    ensures { λ r. ⌜ r ≡ poolArea (managerOn image container manager) kind ⌝ }
 {
     if kind == claims::INTERNAL_POOL {
         return Area {
-            start: place::u64_of(image, container, m, offsets::POOL_BASE),
-            len: place::u64_of(image, container, m, offsets::POOL_BLOCKS),
+            start: place::u64_of(image, container, manager, offsets::POOL_BASE),
+            len: place::u64_of(image, container, manager, offsets::POOL_BLOCKS),
         };
     }
     Area {
-        start: place::u64_of(image, container, m, offsets::POOL_RING),
-        len: place::u32_of(image, container, m, offsets::POOL_RING_BLOCKS),
+        start: place::u64_of(image, container, manager, offsets::POOL_RING),
+        len: place::u32_of(image, container, manager, offsets::POOL_RING_BLOCKS),
     }
 }
 
-// The block of the object map's header.
-fn object_map_area(image: &[u8], k: Checkpoint) -> Area
-    ensures { λ r. ⌜ r ≡ record { start = objectMapAddress (blockOf (now (image .entry)) (k .container .size) (k .superblock)) .0; len = 1 } ⌝ }
-{
-    let container = k.container;
-    let a = superblock::object_map_address(blocks::block(image, container.size, k.superblock));
-    Area { start: a.0, len: 1 }
-}
-
-fn area_of(image: &[u8], k: Checkpoint, m: Manager, kind: u8) -> Area
-    ensures { λ r. ⌜ r ≡ areaOf (blockOf (now (image .entry)) (k .container .size)) k (bytesOf (now (image .entry)) (k .container .size) m) kind ⌝ }
+fn area_of(image: &[u8], container: Container, sb: &[u8], manager: Manager, kind: u8) -> Area
+    ensures { λ r. ⌜ r ≡ areaOf (bytes sb) (managerOn image container manager) kind ⌝ }
 {
     if kind == claims::CONTAINER_SUPERBLOCK {
         return Area { start: 0, len: 1 };
     }
     if kind == claims::OBJECT_MAP {
-        return object_map_area(image, k);
+        let a = superblock::object_map_address(sb);
+        return Area { start: a.0, len: 1 };
     }
     if kind <= claims::DATA_AREA {
-        return superblock_area(image, k, kind);
+        return superblock_area(sb, kind);
     }
-    let container = k.container;
-    pool_area(image, container, m, kind)
+    pool_area(image, container, manager, kind)
 }
 
 // Claims 1 to 6, in order.
-pub fn claim_areas(
+pub(crate) fn claim_areas(
     image: &[u8],
     map: &mut [u8],
-    k: Checkpoint,
-    m: Manager,
+    checkpoint: Checkpoint,
+    manager: Manager,
     log: OverlapLog,
 ) -> Claimed
-    ensures { λ r. ⌜ WalksWhole (now (image .entry)) (k .container) r (now (map .entry)) (now (map .exit)) (areasFrom (blockOf (now (image .entry)) (k .container .size)) k (bytesOf (now (image .entry)) (k .container .size) m) areas containerSuperblock (owned (now (map .entry)) log)) ⌝ }
+    ensures { λ r. ⌜ ClaimsAs image map (checkpoint .container) log r (areasOf checkpoint manager) ⌝ }
 {
-    let container = k.container;
+    let container = checkpoint.container;
+    let at = checkpoint.superblock;
+    let sb = blocks::block(image, container.size, at);
     let mut found = log;
     let mut kind = claims::CONTAINER_SUPERBLOCK;
     while kind <= claims::OBJECT_MAP {
-        let area = area_of(image, k, m, kind);
+        let area = area_of(image, container, sb, manager, kind);
         let claimed = claims::claim(map, container, kind, area.start, area.len, found);
-        let step = claimed.step;
-        match step {
-            Step::Refused(_) => return claimed,
-            Step::Done => {
+        let ending = claimed.ending;
+        match ending {
+            Ending::Refused(_) => return claimed,
+            Ending::Done => {
                 found = claimed.log;
                 kind += 1;
             }
         }
     }
-    let step = Step::Done;
-    Claimed { step, log: found }
+    let ending = Ending::Done;
+    Claimed { ending, log: found }
 }

@@ -1,87 +1,83 @@
 // The audit and the claims of a whole pass.
-use crate::Found;
+use crate::PartsPlace;
 use crate::areas::claim_areas;
-use audit::Audit;
 use audit::Audited;
+use audit::problems;
 use blocks::Address;
 use blocks::ObjectId;
+use checkpoint::Checkpoint;
 use claims::Claimed;
 use manager::offsets::MAIN_QUEUE;
 use manager::offsets::POOL_QUEUE;
 use manager::place;
-use nodes::Described;
+use nodes::DescriptionAnswer;
 use pool::PoolPlace;
+use report::Ending;
 use report::OverlapLog;
-use report::Step;
-use trees::Checkpoint;
-ghost use mathlib.Core.Path.{_≡_};
-ghost use Rattle.blocks.specs.Reads.{run, given};
-ghost use Rattle.blocks.specs.Blocks.{blockOf};
-ghost use Rattle.nodes.specs.Node.{readNode};
-ghost use Rattle.report.specs.Report.{noProblems};
-ghost use Rattle.audit.specs.Answers.{Audits};
-ghost use Rattle.claims.specs.Answers.{owned};
-ghost use Rattle.trees.specs.Answers.{WalksWhole};
-ghost use Rattle.space_check.specs.Check.{claimObjects};
-ghost use Rattle.space_check.specs.Stages.{foundIn, auditFor, objectsFor, claimsFor, RootRead};
-
-fn nothing_audited() -> Audit
-    ensures { λ r. ⌜ r ≡ record { problems = noProblems; free = 0; wrong = 0 } ⌝ }
-{
-    let problems = report::logs::no_problems();
-    Audit {
-        problems,
-        free: 0,
-        wrong: 0,
-    }
-}
+ghost use Rattle.blocks.specs.contracts.Images.{blocksIn};
+ghost use Rattle.audit.specs.contracts.Answers.{AuditsOn};
+ghost use Rattle.trees.specs.contracts.Answers.{ClaimsAs};
+ghost use Rattle.trees.specs.contracts.Read.{NodeRead};
+ghost use Rattle.space_check.specs.contracts.Stages.{auditOf, objectsOf, treesOf, claimsOf, ClaimsOn, RootRead};
 
 // Chunk-info blocks in the order of their list, then the pool queue.
-pub fn audit_all(image: &[u8], map: &mut [u8], k: Checkpoint, x: Found) -> Audited
-    ensures { λ r. ⌜ Audits (now (image .entry)) (k .container) r (now (map .entry)) (now (map .exit)) (auditFor (blockOf (now (image .entry)) (k .container .size)) k (foundIn (blockOf (now (image .entry)) (k .container .size)) (k .container .size) x) (now (map .entry))) ⌝ }
+pub(crate) fn audit_all(
+    image: &[u8],
+    map: &mut [u8],
+    checkpoint: Checkpoint,
+    parts: PartsPlace,
+) -> Audited
+    ensures { λ r. ⌜ AuditsOn image map (checkpoint .container) r (auditOf checkpoint parts) ⌝ }
 {
-    let container = k.container;
-    let p = x.pool;
-    let audited = audit::chunks::audit_infos(image, map, container, p, nothing_audited());
-    let step = audited.step;
-    match step {
-        Step::Refused(_) => audited,
-        Step::Done => {
+    let container = checkpoint.container;
+    let pool = parts.pool;
+    let audited = audit::chunks::audit_device(
+        image,
+        map,
+        container,
+        pool,
+        problems::nothing_audited(),
+    );
+    let ending = audited.ending;
+    match ending {
+        Ending::Refused(_) => audited,
+        Ending::Done => {
             let audit = audited.audit;
-            let m = p.manager;
+            let m = pool.manager;
             let root = ObjectId(place::u64_of(image, container, m, POOL_QUEUE));
-            trees::queues::audit_queue(image, map, k, p, root, audit)
+            trees::queues::audit_queue(image, map, checkpoint, pool, root, audit)
         }
     }
 }
 
 // Claims 7 and 8: the nodes of the object map's tree, then its mappings, for which no node is read again.
-fn claim_nodes(
+fn claim_objects(
     image: &[u8],
     map: &mut [u8],
-    k: Checkpoint,
-    p: PoolPlace,
+    checkpoint: Checkpoint,
+    pool: PoolPlace,
     root: Address,
     log: OverlapLog,
 ) -> Claimed
-    requires { ⌜ run (blockOf (now image) (k .container .size)) (readNode (k .container) root) ≡ given (blockOf (now image) (k .container .size) (root .0)) ⌝ }
-    ensures { λ r. ⌜ WalksWhole (now (image .entry)) (k .container) r (now (map .entry)) (now (map .exit)) (claimObjects (k .container) root (owned (now (map .entry)) log)) ⌝ }
+    requires { ⌜ NodeRead (blocksIn image (checkpoint .container)) (checkpoint .container) (root .0) ⌝ }
+    ensures { λ r. ⌜ ClaimsAs image map (checkpoint .container) log r (objectsOf checkpoint root) ⌝ }
 {
-    let container = k.container;
-    let described = nodes::node::describe(blocks::block(image, container.size, root.0));
+    let container = checkpoint.container;
+    let described = nodes::node::describe(blocks::block(image, container.size, root));
     match described {
-        Described::Refused(r) => {
-            let step = Step::Refused(r);
-            Claimed { step, log }
+        DescriptionAnswer::Refused(r) => {
+            let ending = Ending::Refused(r);
+            Claimed { ending, log }
         }
-        Described::As(d) => {
-            let walked = trees::walks::walk(image, map, container, d, root, log);
-            let step = walked.step;
-            match step {
-                Step::Refused(_) => walked,
-                Step::Done => {
+        DescriptionAnswer::Given(d) => {
+            let kind = claims::OBJECT_MAP_NODE;
+            let walked = trees::walks::walk(image, map, container, kind, d, root, log);
+            let ending = walked.ending;
+            match ending {
+                Ending::Refused(_) => walked,
+                Ending::Done => {
                     let log = walked.log;
-                    trees::queues::claim_mappings(image, map, k, p, d, root.0, log)
+                    trees::queues::claim_mappings(image, map, checkpoint, pool, d, root, log)
                 }
             }
         }
@@ -89,40 +85,51 @@ fn claim_nodes(
 }
 
 // Claims 7 to 9: the object map's nodes and mappings, then the main queue.
-fn claim_objects(image: &[u8], map: &mut [u8], k: Checkpoint, x: Found, log: OverlapLog) -> Claimed
-    requires { ⌜ RootRead (now image) k x ⌝ }
-    ensures { λ r. ⌜ WalksWhole (now (image .entry)) (k .container) r (now (map .entry)) (now (map .exit)) (objectsFor (blockOf (now (image .entry)) (k .container .size)) k (foundIn (blockOf (now (image .entry)) (k .container .size)) (k .container .size) x) (owned (now (map .entry)) log)) ⌝ }
+fn claim_trees(
+    image: &[u8],
+    map: &mut [u8],
+    checkpoint: Checkpoint,
+    parts: PartsPlace,
+    log: OverlapLog,
+) -> Claimed
+    requires { ⌜ RootRead image checkpoint parts ⌝ }
+    ensures { λ r. ⌜ ClaimsAs image map (checkpoint .container) log r (treesOf checkpoint parts) ⌝ }
 {
-    let container = k.container;
-    let p = x.pool;
-    let root = x.root;
-    let claimed = claim_nodes(image, map, k, p, root, log);
-    let step = claimed.step;
-    match step {
-        Step::Refused(_) => claimed,
-        Step::Done => {
+    let container = checkpoint.container;
+    let pool = parts.pool;
+    let root = parts.root;
+    let claimed = claim_objects(image, map, checkpoint, pool, root, log);
+    let ending = claimed.ending;
+    match ending {
+        Ending::Refused(_) => claimed,
+        Ending::Done => {
             let log = claimed.log;
-            let m = p.manager;
+            let m = pool.manager;
             let queue = ObjectId(place::u64_of(image, container, m, MAIN_QUEUE));
-            trees::queues::claim_queue(image, map, k, p, queue, log)
+            trees::queues::claim_queue(image, map, checkpoint, pool, queue, log)
         }
     }
 }
 
 // All claims.
-pub fn claim_all(image: &[u8], map: &mut [u8], k: Checkpoint, x: Found) -> Claimed
-    requires { ⌜ RootRead (now image) k x ⌝ }
-    ensures { λ r. ⌜ WalksWhole (now (image .entry)) (k .container) r (now (map .entry)) (now (map .exit)) (claimsFor (blockOf (now (image .entry)) (k .container .size)) k (foundIn (blockOf (now (image .entry)) (k .container .size)) (k .container .size) x) (now (map .entry))) ⌝ }
+pub(crate) fn claim_all(
+    image: &[u8],
+    map: &mut [u8],
+    checkpoint: Checkpoint,
+    parts: PartsPlace,
+) -> Claimed
+    requires { ⌜ RootRead image checkpoint parts ⌝ }
+    ensures { λ r. ⌜ ClaimsOn image map (checkpoint .container) r (claimsOf checkpoint parts) ⌝ }
 {
-    let p = x.pool;
-    let m = p.manager;
-    let claimed = claim_areas(image, map, k, m, report::logs::no_overlaps());
-    let step = claimed.step;
-    match step {
-        Step::Refused(_) => claimed,
-        Step::Done => {
+    let pool = parts.pool;
+    let m = pool.manager;
+    let claimed = claim_areas(image, map, checkpoint, m, report::logs::no_overlaps());
+    let ending = claimed.ending;
+    match ending {
+        Ending::Refused(_) => claimed,
+        Ending::Done => {
             let log = claimed.log;
-            claim_objects(image, map, k, x, log)
+            claim_trees(image, map, checkpoint, parts, log)
         }
     }
 }

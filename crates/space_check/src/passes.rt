@@ -1,83 +1,80 @@
 // The whole pass: block 0, the superblock that is taken, and what follows.
 use crate::reports::body;
-use checkpoint::Admitted;
-use checkpoint::Chosen;
+use blocks::Address;
+use blocks::AddressAnswer;
+use checkpoint::Checkpoint;
+use checkpoint::ContainerAnswer;
 use checkpoint::Geometry;
-use checkpoint::Opened;
+use checkpoint::GeometryAnswer;
 use report::Answer;
-use report::Step;
-use trees::Checkpoint;
+use report::Ending;
 ghost use mathlib.Core.Path.{_≡_};
 ghost use Prim.Native.Nat.{_≤_};
 ghost use lib.ListN.{length};
-ghost use Rattle.blocks.specs.Reads.{run, given};
-ghost use Rattle.blocks.specs.Blocks.{blockOf, Holds};
-ghost use Rattle.checkpoint.specs.Checkpoint.{takeSuperblock};
-ghost use Rattle.checkpoint.specs.Answers.{takenIn};
-ghost use Rattle.block_map.specs.BlockMap.{cleared};
-ghost use Rattle.space_check.specs.Check.{settle, pass, rest, check as checkOf};
-ghost use Rattle.space_check.specs.Stages.{bodyFor, settleLate, resultOf, Ready};
+ghost use Rattle.blocks.specs.contracts.Images.{bytes, Holds};
+ghost use Rattle.space_check.specs.Check.{pass, check as checkOf};
+ghost use Rattle.space_check.specs.contracts.Stages.{SettlesLate, Settles, restOf, resultOf, Ready, IsTakenAt};
 
 // What follows once the superblock is taken: from here on a refusal zeroes each block's byte.
-fn check_body(image: &[u8], map: &mut [u8], k: Checkpoint) -> Answer
-    requires { ⌜ Holds (now image) (k .container) × (k .container .count ≤ length (now map)) ⌝ }
-    ensures { λ r. ⌜ resultOf r (now (map .exit)) ≡ settleLate (k .container .count) (now (map .entry)) (run (blockOf (now (image .entry)) (k .container .size)) (bodyFor (blockOf (now (image .entry)) (k .container .size)) k (cleared (k .container .count) (now (map .entry))))) ⌝ }
+fn check_body(image: &[u8], map: &mut [u8], checkpoint: Checkpoint) -> Answer
+    requires { ⌜ Holds (now image) (checkpoint .container) × (checkpoint .container .count ≤ length (now map)) ⌝ }
+    ensures { λ r. ⌜ SettlesLate image map checkpoint r ⌝ }
 {
-    let container = k.container;
+    let container = checkpoint.container;
     block_map::clear(map, container.count);
-    let passed = body(image, map, k);
-    let step = passed.step;
-    match step {
-        Step::Refused(r) => {
+    let passed = body(image, map, checkpoint);
+    let ending = passed.ending;
+    match ending {
+        Ending::Refused(r) => {
             block_map::clear(map, container.count);
             report::answers::refusal(r)
         }
-        Step::Done => {
+        Ending::Done => {
             let report = passed.report;
             report::answers::reported(report)
         }
     }
 }
 
-// Refusals 10 and 11, then the body, for the superblock in block n.
-fn check_taken(image: &[u8], map: &mut [u8], g: Geometry, n: u64) -> Answer
-    requires { ⌜ Ready (now image) (now map) g × (run (blockOf (now image) (g .size)) (takeSuperblock g) ≡ given (takenIn (blockOf (now image) (g .size)) g n)) ⌝ }
-    ensures { λ r. ⌜ resultOf r (now (map .exit)) ≡ settle (g .count) (now (map .entry)) (run (blockOf (now (image .entry)) (g .size)) (rest g (now (map .entry)) (takenIn (blockOf (now (image .entry)) (g .size)) g n))) ⌝ }
+// Refusals 10 and 11, then the body, for the superblock at an address.
+fn check_taken(image: &[u8], map: &mut [u8], geometry: Geometry, superblock: Address) -> Answer
+    requires { ⌜ Ready (now image) (now map) geometry × IsTakenAt image geometry superblock ⌝ }
+    ensures { λ r. ⌜ Settles image map geometry r (restOf geometry superblock) ⌝ }
 {
-    let admitted = checkpoint::choice::admit(g, blocks::block(image, g.size, n));
+    let sb = blocks::block(image, geometry.size, superblock);
+    let admitted = checkpoint::choice::admit(geometry, sb);
     match admitted {
-        Admitted::Refused(r) => report::answers::refusal(r),
-        Admitted::As(container) => {
-            let k = Checkpoint {
+        ContainerAnswer::Refused(r) => report::answers::refusal(r),
+        ContainerAnswer::Given(container) => {
+            let checkpoint = Checkpoint {
                 container,
-                base: g.base,
-                ring: g.ring,
-                superblock: n,
+                geometry,
+                superblock,
             };
-            check_body(image, map, k)
+            check_body(image, map, checkpoint)
         }
     }
 }
 
 // A pass over the container that block 0 names.
-fn check_in(image: &[u8], map: &mut [u8], g: Geometry) -> Answer
-    requires { ⌜ Ready (now image) (now map) g ⌝ }
-    ensures { λ r. ⌜ resultOf r (now (map .exit)) ≡ settle (g .count) (now (map .entry)) (run (blockOf (now (image .entry)) (g .size)) (pass g (now (map .entry)))) ⌝ }
+fn check_in(image: &[u8], map: &mut [u8], geometry: Geometry) -> Answer
+    requires { ⌜ Ready (now image) (now map) geometry ⌝ }
+    ensures { λ r. ⌜ Settles image map geometry r (λ f. pass geometry) ⌝ }
 {
-    let chosen = checkpoint::choice::take_superblock(image, g);
-    match chosen {
-        Chosen::Refused(r) => report::answers::refusal(r),
-        Chosen::At(n) => check_taken(image, map, g, n),
+    let taken = checkpoint::choice::take_superblock(image, geometry);
+    match taken {
+        AddressAnswer::Refused(r) => report::answers::refusal(r),
+        AddressAnswer::Given(a) => check_taken(image, map, geometry, a),
     }
 }
 
 // The answer on an image, and the block map that is left: a report, or the first refusal.
 pub fn check(image: &[u8], map: &mut [u8]) -> Answer
-    ensures { λ r. ⌜ resultOf r (now (map .exit)) ≡ checkOf (now (image .entry)) (now (map .entry)) ⌝ }
+    ensures { λ r. ⌜ resultOf r (now (map .exit)) ≡ checkOf (bytes image) (bytes map) ⌝ }
 {
     let opened = checkpoint::block_zero::geometry(image, map.len());
     match opened {
-        Opened::Refused(r) => report::answers::refusal(r),
-        Opened::As(g) => check_in(image, map, g),
+        GeometryAnswer::Refused(r) => report::answers::refusal(r),
+        GeometryAnswer::Given(g) => check_in(image, map, g),
     }
 }

@@ -12,11 +12,11 @@ use lib.Seq.{drop-cons, drop-drop, set-out}
 use borrow.Author.Tests.{eq-eqb, ne-eqb}
 use Rattle.fields.specs.Choice.{pick, choose}
 use Rattle.block_map.specs.BlockMap.{ownerOf, isMarked, isUsed, countIn, firstIn}
-use Rattle.block_map.specs.Rows.{greatestIn, allZero}
+use Rattle.block_map.specs.contracts.Rows.{greatestIn, allZero}
 use Rattle.block_map.proofs.Rows.{greatest-zero, greatest-zeros, zero-row}
 use Rattle.report.specs.declared.Lost.{Lost}
 use Rattle.totals.specs.Totals.{unowned, isLost, isLeaked, lostOf, lostFrom, lostIn, consistent, inconsistent, verdictOf}
-use Rattle.totals.specs.Counting.{firstKind, lostKind, noLost, oneMore, lostAlong, lostAfter, countsIn}
+use Rattle.totals.specs.contracts.Counting.{firstKind, lostKind, noLost, oneMore, lostAlong, lostAfter, countsIn}
 
 by-test : (P : Bool → Type 0) → P true → P false → (t : Bool) → P t
 by-test P met unmet true = met

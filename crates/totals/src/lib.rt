@@ -14,13 +14,13 @@ ghost use lib.Dec.{eqb};
 ghost use lib.ListN.{length, take};
 ghost use Rattle.fields.specs.Choice.{pick};
 ghost use Rattle.totals.specs.Totals.{isLeaked, lostIn, verdictOf};
-ghost use Rattle.totals.specs.Counting.{firstKind, lostKind, oneMore, lostAfter, totalsOf, countsIn, Room};
+ghost use Rattle.totals.specs.contracts.Counting.{firstKind, lostKind, oneMore, lostAfter, totalsOf, countsIn, Room};
 
 // The owner of the first kind of claimants.
 const FIRST_KIND: u8 = 1;
 
 // The owner of a block that nothing claimed.
-const UNOWNED: u8 = 0;
+pub const UNOWNED: u8 = 0;
 
 const CONSISTENT: u8 = 1;
 
@@ -42,24 +42,28 @@ pub struct Totals {
     pub lost: [Lost; KINDS],
 }
 
-fn is_leaked(x: u8) -> bool
-    ensures { λ r. ⌜ r ≡ isLeaked x ⌝ }
+fn is_leaked(byte: u8) -> bool
+    ensures { λ r. ⌜ r ≡ isLeaked byte ⌝ }
 {
-    owner(x) == UNOWNED && is_marked(x)
+    owner(byte) == UNOWNED && is_marked(byte)
 }
 
 // The kind that lost the block of a byte, or UNOWNED.
-fn lost_kind(x: u8) -> u8
-    ensures { λ r. ⌜ r ≡ lostKind x ⌝ }
+fn lost_kind(byte: u8) -> u8
+    ensures { λ r. ⌜ r ≡ lostKind byte ⌝ }
 {
-    if is_marked(x) { UNOWNED } else { owner(x) }
+    if is_marked(byte) {
+        UNOWNED
+    } else {
+        owner(byte)
+    }
 }
 
-fn counted(n: u8, met: bool) -> u8
-    requires { ⌜ n < 255 ⌝ }
-    ensures { λ r. ⌜ r ≡ pick met (n + 1) n ⌝ }
+fn counted(count: u8, met: bool) -> u8
+    requires { ⌜ count < 255 ⌝ }
+    ensures { λ r. ⌜ r ≡ pick met (count + 1) count ⌝ }
 {
-    if met { n + 1 } else { n }
+    if met { count + 1 } else { count }
 }
 
 // With no branch, so that many bytes are counted at once.
@@ -95,13 +99,13 @@ fn counts_of(row: &[u8]) -> Counts
 }
 
 // The first block stays: the count tells whether there is one, since it may be block 0.
-fn one_more(l: Lost, block: u64) -> Lost
-    requires { ⌜ l .count < 2 ^ 64 - 1 ⌝ }
-    ensures { λ r. ⌜ r ≡ oneMore block l ⌝ }
+fn one_more(lost: Lost, block: u64) -> Lost
+    requires { ⌜ lost .count < 2 ^ 64 - 1 ⌝ }
+    ensures { λ r. ⌜ r ≡ oneMore block lost ⌝ }
 {
-    let first = if l.count == 0 { block } else { l.first };
+    let first = if lost.count == 0 { block } else { lost.first };
     Lost {
-        count: l.count + 1,
+        count: lost.count + 1,
         first,
     }
 }
@@ -126,11 +130,11 @@ fn lost_in(row: &[u8], start: u64, before: [Lost; KINDS]) -> [Lost; KINDS]
     lost
 }
 
-fn row_end(at: usize, n: usize) -> usize
-    requires { ⌜ at < n ⌝ }
-    ensures { λ r. ⌜ (at < r) × (r ≤ n) × (r < at + 256) ⌝ }
+fn row_end(at: usize, end: usize) -> usize
+    requires { ⌜ at < end ⌝ }
+    ensures { λ r. ⌜ (at < r) × (r ≤ end) × (r < at + 256) ⌝ }
 {
-    if n - at < ROW { n } else { at + ROW }
+    if end - at < ROW { end } else { at + ROW }
 }
 
 // Bytes are looked at one by one only in a row that has a lost block.
@@ -165,7 +169,7 @@ pub fn count_blocks(map: &[u8], blocks: u64) -> Totals
 }
 
 // The sum of the counts may pass 2^64, so it is not made.
-pub fn none_lost(lost: [Lost; KINDS]) -> bool
+fn none_lost(lost: [Lost; KINDS]) -> bool
     ensures { λ r. ⌜ r ≡ eqb (lostIn lost 0) 0 ⌝ }
 {
     for i in 0..KINDS {

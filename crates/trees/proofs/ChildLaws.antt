@@ -1,7 +1,8 @@
 -- Laws of the children of a node.
 use mathlib.Core.Path.{_≡_, refl, _∙_}
 use mathlib.Core.List.{List}
-use Prim.Native.Nat.{ℕ, suc, _+_, _-_, _≤_, _<_}
+use mathlib.Core.Logic.{_≢_}
+use Prim.Native.Nat.{ℕ, zero, suc, _+_, _<_}
 use native.Mathlib.Omega.{arith}
 use borrow.Author.Tests.{eq-eqb, ne-eqb, eqb-true}
 use Rattle.blocks.specs.Reads.{Reads, given, refused, run, noBlocks, _>>=_}
@@ -11,8 +12,8 @@ use Rattle.blocks.specs.declared.Refusal.the-variants.{WrongLevel}
 use Rattle.nodes.specs.Node.{Entry, levelOf, entry, pointer}
 use Rattle.nodes.specs.Scan.{lookAt}
 use Rattle.nodes.specs.declared.Description.{Description}
-use Rattle.trees.specs.Visits.{pointerPast, oneBelow, childBelow}
-use Rattle.trees.specs.Walks.{pointerOf, pointerAt}
+use Rattle.trees.specs.contracts.Visits.{pointerPast, oneBelow, childBelow}
+use Rattle.trees.specs.contracts.Walks.{pointerOf, pointerAt}
 
 module _ (f : ℕ → List ℕ) (d : Description) (b : List ℕ) (i : ℕ) where
   pub pointer-unread : (r : Refusal) → run f (entry d b i) ≡ refused r → run f (pointerOf d b i) ≡ refused r
@@ -22,19 +23,19 @@ module _ (f : ℕ → List ℕ) (d : Description) (b : List ℕ) (i : ℕ) where
   pointer-read x e = then-given f _ _ x e
 
   -- an entry past the last isn't looked at
-  module _ (n : ℕ) where
-    pub look-none : n ≤ i → run f (lookAt d b (n - i) i) ≡ given tt
-    unfolding run lookAt
-    look-none h = let e : n - i ≡ 0 = omega arith in rw e refl
+  pub look-none : (left : ℕ) → left ≡ 0 → run f (lookAt d b left i) ≡ given tt
+  unfolding run lookAt
+  look-none left e = rw e refl
 
-    module _ (h : i < n) where
-      pub look-unread : (r : Refusal) → run f (entry d b i) ≡ refused r → run f (lookAt d b (n - i) i) ≡ refused r
-      unfolding lookAt
-      look-unread r e = let s : n - i ≡ suc (n - (i + 1)) = omega arith in rw s (then-refused f _ _ r e)
+  pub look-unread : (left : ℕ) → left ≢ 0 → (r : Refusal) → run f (entry d b i) ≡ refused r → run f (lookAt d b left i) ≡ refused r
+  unfolding lookAt
+  look-unread zero h r e = absurd (h refl)
+  look-unread (suc left) h r e = then-refused f _ _ r e
 
-      pub look-read : (x : Entry) → run f (entry d b i) ≡ given x → run f (lookAt d b (n - i) i) ≡ given tt
-      unfolding run lookAt
-      look-read x e = let s : n - i ≡ suc (n - (i + 1)) = omega arith in rw s (then-given f _ _ x e)
+  pub look-read : (left : ℕ) → left ≢ 0 → (x : Entry) → run f (entry d b i) ≡ given x → run f (lookAt d b left i) ≡ given tt
+  unfolding run lookAt
+  look-read zero h x e = absurd (h refl)
+  look-read (suc left) h x e = then-given f _ _ x e
 
   module _ (left : ℕ) where
     pub past-unread : (r : Refusal) → run f (entry d b i) ≡ refused r → run f (pointerPast d b left i) ≡ refused r

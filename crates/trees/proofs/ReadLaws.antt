@@ -7,27 +7,24 @@ use Prim.Native.Nat.{ℕ, zero, suc, _+_, _≤_, _<_, pred}
 use native.Mathlib.Decide.{decLe}
 use native.Mathlib.Omega.{arith}
 use borrow.Author.Tests.{ltb-true}
-use Rattle.blocks.specs.Reads.{Reads, Outcome, given, run, _>>=_}
+use Rattle.blocks.specs.Reads.{Reads, given, run, _>>=_}
 use Rattle.blocks.proofs.Laws.{then-given, need-held, both}
 use Rattle.blocks.specs.declared.Address.{Address}
 use Rattle.blocks.specs.declared.Container.{Container}
+use Rattle.blocks.specs.declared.ObjectId.{ObjectId}
 use Rattle.nodes.specs.Node.{isLeaf, keyCount, entry, readNode}
 use Rattle.nodes.specs.Scan.{lookAt}
-use Rattle.nodes.specs.Walk.{Walked, childrenFrom, each, walkBelow, mostLevels, walk}
+use Rattle.nodes.specs.Walk.{Walked, childrenFrom, each, childrenOf, walkBelow, mostLevels, walk}
 use Rattle.nodes.specs.declared.Description.{Description}
 use Rattle.nodes.proofs.Laws.{node-given}
 use Rattle.checkpoint.specs.declared.Mapped.{Mapped}
-use Rattle.trees.specs.Visits.{childFor, treeChild, pointerPast, oneBelow, childBelow}
-use Rattle.trees.specs.Walks.{pointerOf, childrenOf}
-use Rattle.trees.specs.Read.{NodeRead, ReadBelow, TreeRead, WalkedFor, ScanRead, ChildRead}
+use Rattle.trees.specs.contracts.Visits.{childFor, treeChild, pointerPast, oneBelow, childBelow}
+use Rattle.trees.specs.contracts.Walks.{pointerOf}
+use Rattle.trees.specs.contracts.Read.{NodeRead, ReadBelow, TreeRead, WalkedFor, ScanRead, ChildRead}
 use Rattle.trees.specs.declared.Purpose.{Purpose}
 use Rattle.trees.specs.declared.Purpose.the-variants.{PoolQueue, Mappings, MainQueue}
 use Rattle.trees.specs.declared.Tree.{Tree}
-use Rattle.trees.proofs.WalkLaws.{children-step, walk-visited}
-
--- two answers of one pass are one
-given-same : {A : Type 0} (o : Outcome A) (a b : A) → o ≡ given a → o ≡ given b → a ≡ b
-given-same o a b p q = cc
+use Rattle.trees.proofs.WalkLaws.{given-same, children-step, walk-visited}
 
 unfoldable All : (ℕ → Type 0) → List ℕ → Type 0
 All P [] = Unit {0}
@@ -78,7 +75,7 @@ module _ {S : Type 0} (f : ℕ → List ℕ) (visit : S → Address → Reads S)
       let node = both f (readNode c (record { 0 = a })) _ v (turn .1) in
       let visited = both f (visit (w .state) (record { 0 = a })) _ v (node .rest) in
       let read : NodeRead f c a = node .came ∙ ap given (node-given f c (record { 0 = a }) (node .first) (node .came)) in
-      let children : run f (childrenOf visit c d levels (f a) (record { left = pred (w .left); state = visited .first })) ≡ given v = sym (walk-visited f visit c d levels a w (ltb-true _ _ (turn .0)) (f a) read (visited .first) (visited .came)) ∙ e in
+      let children : run f (childrenOf visit c d (walkBelow visit c d levels) (f a) (record { left = pred (w .left); state = visited .first })) ≡ given v = sym (walk-visited f visit c d levels a w (ltb-true _ _ (turn .0)) (f a) read (visited .first) (visited .came)) ∙ e in
       (read, λ index i x h q. children-all (λ y. NodeRead f c y × ReadBelow f c d levels (f y)) (walkBelow visit c d levels) (below-read levels) (f a) (record { left = pred (w .left); state = visited .first }) v (rw index at children) i x (omega arith) h q)
 
   -- a whole walk that came to its end
@@ -106,7 +103,7 @@ past-pointer f d b left i a e =
     then-given f _ _ (found .first) (found .came) ∙ looked .rest
 
 -- a child of the object map's tree is the block that it is read from
-mapping-child : (f : ℕ → List ℕ) (c : Container) (mapped : ℕ → Mapped) (purpose : Purpose) (a : ℕ) (m : List ℕ) → purpose ≡ Mappings → run f (childFor c mapped purpose a) ≡ given m → m ≡ f a
+mapping-child : (f : ℕ → List ℕ) (c : Container) (mapped : ObjectId → Mapped) (purpose : Purpose) (a : ℕ) (m : List ℕ) → purpose ≡ Mappings → run f (childFor c mapped purpose a) ≡ given m → m ≡ f a
 unfolding childFor
 mapping-child f c mapped purpose a m p e = node-given f c (record { 0 = a }) m (rw p at e)
 
@@ -131,7 +128,7 @@ module _ (f : ℕ → List ℕ) (t : Tree) (at : ℕ) (read : ScanRead f t (f at
 pub pointer-known : (f : ℕ → List ℕ) (t : Tree) (b : List ℕ) (left i a : ℕ) → ChildRead f t b i → run f (pointerPast (t .description) b left i) ≡ given a → WalkedFor (t .purpose) (NodeRead f (t .checkpoint .container) a)
 pointer-known f t b left i a read e p = read p a (past-pointer f _ b left i a e)
 
-pub child-known : (f : ℕ → List ℕ) (c : Container) (mapped : ℕ → Mapped) (purpose : Purpose) (a : ℕ) → purpose ≡ Mappings → WalkedFor purpose (NodeRead f c a) → run f (childFor c mapped purpose a) ≡ given (f a)
+pub child-known : (f : ℕ → List ℕ) (c : Container) (mapped : ObjectId → Mapped) (purpose : Purpose) (a : ℕ) → purpose ≡ Mappings → WalkedFor purpose (NodeRead f c a) → run f (childFor c mapped purpose a) ≡ given (f a)
 unfolding childFor
 child-known f c mapped purpose a p read = rw p (read p)
 

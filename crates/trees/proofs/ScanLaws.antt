@@ -12,11 +12,11 @@ use Rattle.blocks.specs.Reads.{Reads, done, refuse, read, Outcome, given, refus
 use Rattle.blocks.proofs.Laws.{andThen, run-bind, then-given, then-refused}
 use Rattle.blocks.specs.declared.Refusal.{Refusal}
 use Rattle.blocks.specs.declared.Refusal.the-variants.{WrongLevel}
-use Rattle.audit.proofs.Laws.{bind-assoc as assoc}
+use Rattle.blocks.proofs.Laws.{bind-assoc as assoc}
 use Rattle.nodes.specs.Node.{Entry, isLeaf, levelOf, keyCount, entry, pointer}
 use Rattle.nodes.specs.Scan.{leafFrom, lookAt, indexFrom, scanNode, below, scan}
 use Rattle.nodes.specs.declared.Description.{Description}
-use Rattle.trees.specs.Visits.{pointerPast, oneBelow, childBelow}
+use Rattle.trees.specs.contracts.Visits.{pointerPast, oneBelow, childBelow}
 
 -- sequences, whatever comes after
 
@@ -34,12 +34,6 @@ pred-less zero = refl
 pred-less (suc n) = omega arith
 
 module _ {S : Type 0} (f : ℕ → List ℕ) (visit : S → Entry → Reads S) (d : Description) (child : ℕ → Reads (List ℕ)) where
-  abbrev pub leafLeft : List ℕ → ℕ → ℕ → S → Outcome S
-  leafLeft b left i s = run f (leafFrom visit d child b left i s)
-
-  abbrev pub indexLeft : ℕ → List ℕ → ℕ → ℕ → S → Outcome S
-  indexLeft level b left i s = run f (indexFrom visit d child (below visit d child level) b left i s)
-
   -- a child, and what follows it
   below-step : (level : ℕ) (n : List ℕ) (s : S) (rest : S → Reads S)
       → run f (below visit d child level n s >>= rest) ≡ run f (need (eqb (levelOf n + 1) level) WrongLevel >>= (λ _. done n) >>= λ m. scanNode visit d child (below visit d child (pred level)) m s >>= rest)
@@ -55,7 +49,7 @@ module _ {S : Type 0} (f : ℕ → List ℕ) (visit : S → Entry → Reads S) (
       go false = refl
 
   index-step : (level left i : ℕ) (b : List ℕ) (s : S)
-      → indexLeft level b (suc left) i s ≡ run f (childBelow d child level b left i >>= λ n. scanNode visit d child (below visit d child (pred level)) n s >>= indexFrom visit d child (below visit d child level) b left (i + 1))
+      → run f (indexFrom visit d child (below visit d child level) b (suc left) i s) ≡ run f (childBelow d child level b left i >>= λ n. scanNode visit d child (below visit d child (pred level)) n s >>= indexFrom visit d child (below visit d child level) b left (i + 1))
   unfolding indexFrom childBelow pointerPast oneBelow
   index-step level left i b s =
       sym (bind-assoc f (entry d b i) _ child-first ∙ bind-cong f (entry d b i) _ _ (λ e. bind-assoc f (lookAt d b left (i + 1)) _ child-first))
@@ -71,53 +65,41 @@ module _ {S : Type 0} (f : ℕ → List ℕ) (visit : S → Entry → Reads S) (
       next : List ℕ → Reads S
       next n = scanNode visit d child (below visit d child (pred level)) n s >>= rest
 
-  -- the children from the i-th of n on
-  module _ (level : ℕ) (b : List ℕ) (n i : ℕ) (s : S) where
-    pub index-done : n ≤ i → indexLeft level b (n - i) i s ≡ given s
-    unfolding run indexFrom
-    index-done h = let e : n - i ≡ 0 = omega arith in rw e refl
+  -- the children from the i-th on, of which left are left
+  module _ (level : ℕ) (b : List ℕ) (i : ℕ) (s : S) where
+    pub index-done : (left : ℕ) → left ≡ 0 → indexFrom visit d child (below visit d child level) b left i s ≡ done s
+    unfolding indexFrom
+    index-done left e = rw e refl
 
-    module _ (h : i < n) where
-      one-less : n - i ≡ suc (n - (i + 1))
-      one-less = omega arith
+    pub index-refused : (left : ℕ) → 0 < left → (r : Refusal) → run f (childBelow d child level b (left - 1) i) ≡ refused r → run f (indexFrom visit d child (below visit d child level) b left i s) ≡ refused r
+    index-refused zero h r e = absurd (omega arith)
+    index-refused (suc left) h r e = let less : suc left - 1 ≡ left = omega arith in index-step level left i b s ∙ then-refused f _ _ r (rw less at e)
 
-      pub index-refused : (r : Refusal) → run f (childBelow d child level b (n - (i + 1)) i) ≡ refused r → indexLeft level b (n - i) i s ≡ refused r
-      index-refused r e = rw one-less (index-step level (n - (i + 1)) i b s ∙ then-refused f _ _ r e)
+    -- l is the child's level
+    pub index-found : (left : ℕ) → 0 < left → (m : List ℕ) → run f (childBelow d child level b (left - 1) i) ≡ given m → (l : ℕ) → pred level ≡ l
+        → run f (indexFrom visit d child (below visit d child level) b left i s) ≡ run f (scanNode visit d child (below visit d child l) m s >>= indexFrom visit d child (below visit d child level) b (left - 1) (i + 1))
+    index-found zero h m e l q = absurd (omega arith)
+    index-found (suc left) h m e l q = let less : suc left - 1 ≡ left = omega arith in rw (less, ← q) (index-step level left i b s ∙ then-given f _ _ m (rw less at e))
 
-      -- l is the child's level
-      module _ (m : List ℕ) (e : run f (childBelow d child level b (n - (i + 1)) i) ≡ given m) (l : ℕ) (q : pred level ≡ l) where
-        down : indexLeft level b (n - i) i s ≡ run f (scanNode visit d child (below visit d child l) m s >>= indexFrom visit d child (below visit d child level) b (n - (i + 1)) (i + 1))
-        down = rw (one-less, ← q) (index-step level (n - (i + 1)) i b s ∙ then-given f _ _ m e)
+  -- the entries of a leaf from the i-th on, of which left are left
+  module _ (b : List ℕ) (i : ℕ) (s : S) where
+    pub leaf-done : (left : ℕ) → left ≡ 0 → leafFrom visit d child b left i s ≡ done s
+    unfolding leafFrom
+    leaf-done left e = rw e refl
 
-        pub index-stops : (r : Refusal) → run f (scanNode visit d child (below visit d child l) m s) ≡ refused r → indexLeft level b (n - i) i s ≡ refused r
-        index-stops r p = down ∙ then-refused f _ _ r p
+    pub leaf-refused : (left : ℕ) → 0 < left → (r : Refusal) → run f (entry d b i) ≡ refused r → run f (leafFrom visit d child b left i s) ≡ refused r
+    unfolding leafFrom
+    leaf-refused zero h r e = absurd (omega arith)
+    leaf-refused (suc left) h r e = then-refused f _ _ r e
 
-        pub index-more : (t : S) → run f (scanNode visit d child (below visit d child l) m s) ≡ given t → indexLeft level b (n - i) i s ≡ indexLeft level b (n - (i + 1)) (i + 1) t
-        index-more t p = down ∙ then-given f _ _ t p
-
-  -- the entries of a leaf from the i-th of n on
-  module _ (b : List ℕ) (n i : ℕ) (s : S) where
-    pub leaf-done : n ≤ i → leafLeft b (n - i) i s ≡ given s
-    unfolding run leafFrom
-    leaf-done h = let e : n - i ≡ 0 = omega arith in rw e refl
-
-    module _ (h : i < n) where
-      pub leaf-refused : (r : Refusal) → run f (entry d b i) ≡ refused r → leafLeft b (n - i) i s ≡ refused r
-      unfolding leafFrom
-      leaf-refused r e = rw (one-less 0 b n i s h) (then-refused f _ _ r e)
-
-      module _ (x : Entry) (e : run f (entry d b i) ≡ given x) where
-        pub leaf-stops : (r : Refusal) → run f (visit s x) ≡ refused r → leafLeft b (n - i) i s ≡ refused r
-        unfolding leafFrom
-        leaf-stops r q = rw (one-less 0 b n i s h) (then-given f _ _ x e ∙ then-refused f _ _ r q)
-
-        pub leaf-more : (t : S) → run f (visit s x) ≡ given t → leafLeft b (n - i) i s ≡ leafLeft b (n - (i + 1)) (i + 1) t
-        unfolding leafFrom
-        leaf-more t q = rw (one-less 0 b n i s h) (then-given f _ _ x e ∙ then-given f _ _ t q)
+    pub leaf-found : (left : ℕ) → 0 < left → (x : Entry) → run f (entry d b i) ≡ given x → run f (leafFrom visit d child b left i s) ≡ run f (visit s x >>= leafFrom visit d child b (left - 1) (i + 1))
+    unfolding leafFrom
+    leaf-found zero h x e = absurd (omega arith)
+    leaf-found (suc left) h x e = let less : suc left - 1 ≡ left = omega arith in rw less (then-given f _ _ x e)
 
   -- which of the two a node is
   module _ (down : List ℕ → S → Reads S) (b : List ℕ) (s : S) where
-    pub scan-leaf : isLeaf b ≡ true → run f (scanNode visit d child down b s) ≡ leafLeft b (keyCount b) 0 s
+    pub scan-leaf : isLeaf b ≡ true → run f (scanNode visit d child down b s) ≡ run f (leafFrom visit d child b (keyCount b) 0 s)
     unfolding scanNode
     scan-leaf e = rw e refl
 
@@ -125,60 +107,69 @@ module _ {S : Type 0} (f : ℕ → List ℕ) (visit : S → Entry → Reads S) (
     unfolding scanNode
     scan-index e = rw e refl
 
+-- all entries, by the count that was read
+pub all-leaf : {S : Type 0} (visit : S → Entry → Reads S) (d : Description) (child : ℕ → Reads (List ℕ)) (b : List ℕ) (n : ℕ) (s : S) → n ≡ keyCount b → leafFrom visit d child b n 0 s ≡ leafFrom visit d child b (keyCount b) 0 s
+all-leaf visit d child b n s e = rw e refl
+
+-- a whole index node, by the block that it is and the count that was read
+pub whole-index : {S : Type 0} (f : ℕ → List ℕ) (visit : S → Entry → Reads S) (d : Description) (child : ℕ → Reads (List ℕ)) (down : List ℕ → S → Reads S) (node b : List ℕ) (n : ℕ) (s : S) → node ≡ b → isLeaf node ≡ false → n ≡ keyCount node
+    → run f (indexFrom visit d child down node n 0 s) ≡ run f (scanNode visit d child down b s)
+whole-index f visit d child down node b n s is index e = rw (e, ← is) (sym (scan-index f visit d child down node s index))
+
 -- a scan whose state is wider: it leaves what its visits leave
 
-abbrev pub mapped : {S T : Type 0} → (S → T) → Outcome S → Outcome T
-mapped up (given s) = given (up s)
-mapped up (refused r) = refused r
+abbrev pub raised : {S T : Type 0} → (S → T) → Outcome S → Outcome T
+raised up (given s) = given (up s)
+raised up (refused r) = refused r
 
 module _ {S T : Type 0} (f : ℕ → List ℕ) (up : S → T) where
   Wider : (S → Reads S) → (T → Reads T) → Type 0
-  Wider p q = (s : S) → run f (q (up s)) ≡ mapped up (run f (p s))
+  Wider p q = (s : S) → run f (q (up s)) ≡ raised up (run f (p s))
 
   -- two steps that are wider, one after the other
-  wider-then : (p : S → Reads S) (q : T → Reads T) (g : S → Reads S) (h : T → Reads T) → Wider p q → Wider g h → (s : S) → run f (q (up s) >>= h) ≡ mapped up (run f (p s >>= g))
+  wider-then : (p : S → Reads S) (q : T → Reads T) (g : S → Reads S) (h : T → Reads T) → Wider p q → Wider g h → (s : S) → run f (q (up s) >>= h) ≡ raised up (run f (p s >>= g))
   unfolding Wider
   wider-then p q g h a b s = run-bind f (q (up s)) h ∙ rw (a s, run-bind f (p s) g) (go (run f (p s)))
     where
-      go : (o : Outcome S) → andThen (mapped up o) (λ t. run f (h t)) ≡ mapped up (andThen o (λ t. run f (g t)))
+      go : (o : Outcome S) → andThen (raised up o) (λ t. run f (h t)) ≡ raised up (andThen o (λ t. run f (g t)))
       go (given t) = b t
       go (refused r) = refl
 
   -- the same steps before both
-  pub wider-after : {A : Type 0} (p : Reads A) (g : A → Reads S) (h : A → Reads T) → ((a : A) → run f (h a) ≡ mapped up (run f (g a))) → run f (p >>= h) ≡ mapped up (run f (p >>= g))
+  pub wider-after : {A : Type 0} (p : Reads A) (g : A → Reads S) (h : A → Reads T) → ((a : A) → run f (h a) ≡ raised up (run f (g a))) → run f (p >>= h) ≡ raised up (run f (p >>= g))
   unfolding run _>>=_
   wider-after (done a) g h e = e a
   wider-after (refuse r) g h e = refl
   wider-after (read n k) g h e = wider-after (k (f n)) g h e
 
-  module _ (visit : S → Entry → Reads S) (visits : T → Entry → Reads T) (wide : (e : Entry) (s : S) → run f (visits (up s) e) ≡ mapped up (run f (visit s e))) (d : Description) (child : ℕ → Reads (List ℕ)) where
-    leaf-wider : (b : List ℕ) (left i : ℕ) (s : S) → run f (leafFrom visits d child b left i (up s)) ≡ mapped up (run f (leafFrom visit d child b left i s))
+  module _ (visit : S → Entry → Reads S) (visits : T → Entry → Reads T) (wide : (e : Entry) (s : S) → run f (visits (up s) e) ≡ raised up (run f (visit s e))) (d : Description) (child : ℕ → Reads (List ℕ)) where
+    leaf-wider : (b : List ℕ) (left i : ℕ) (s : S) → run f (leafFrom visits d child b left i (up s)) ≡ raised up (run f (leafFrom visit d child b left i s))
     unfolding run leafFrom Wider
     leaf-wider b zero i s = refl
     leaf-wider b (suc left) i s = wider-after (entry d b i) _ _ (λ e. wider-then (λ s. visit s e) (λ t. visits t e) _ _ (wide e) (leaf-wider b left (i + 1)) s)
 
-    module _ (down : List ℕ → S → Reads S) (downs : List ℕ → T → Reads T) (same : (n : List ℕ) (s : S) → run f (downs n (up s)) ≡ mapped up (run f (down n s))) where
-      index-wider : (b : List ℕ) (left i : ℕ) (s : S) → run f (indexFrom visits d child downs b left i (up s)) ≡ mapped up (run f (indexFrom visit d child down b left i s))
+    module _ (down : List ℕ → S → Reads S) (downs : List ℕ → T → Reads T) (same : (n : List ℕ) (s : S) → run f (downs n (up s)) ≡ raised up (run f (down n s))) where
+      index-wider : (b : List ℕ) (left i : ℕ) (s : S) → run f (indexFrom visits d child downs b left i (up s)) ≡ raised up (run f (indexFrom visit d child down b left i s))
       unfolding run indexFrom Wider
       index-wider b zero i s = refl
       index-wider b (suc left) i s =
           wider-after (entry d b i) _ _ λ e. wider-after (lookAt d b left (i + 1)) _ _ λ u. wider-after (pointer (e .value)) _ _ λ a. wider-after (child a) _ _ λ n. wider-then (down n) (downs n) _ _ (same n) (index-wider b left (i + 1)) s
 
-      node-wider : (b : List ℕ) (s : S) → run f (scanNode visits d child downs b (up s)) ≡ mapped up (run f (scanNode visit d child down b s))
+      node-wider : (b : List ℕ) (s : S) → run f (scanNode visits d child downs b (up s)) ≡ raised up (run f (scanNode visit d child down b s))
       unfolding scanNode
       node-wider b s = go (isLeaf b)
         where
           go : (t : Bool)
               → run f (choose t (λ _. leafFrom visits d child b (keyCount b) 0 (up s)) (λ _. indexFrom visits d child downs b (keyCount b) 0 (up s)))
-              ≡ mapped up (run f (choose t (λ _. leafFrom visit d child b (keyCount b) 0 s) (λ _. indexFrom visit d child down b (keyCount b) 0 s)))
+              ≡ raised up (run f (choose t (λ _. leafFrom visit d child b (keyCount b) 0 s) (λ _. indexFrom visit d child down b (keyCount b) 0 s)))
           go true = leaf-wider b (keyCount b) 0 s
           go false = index-wider b (keyCount b) 0 s
 
-    below-wider : (level : ℕ) (b : List ℕ) (s : S) → run f (below visits d child level b (up s)) ≡ mapped up (run f (below visit d child level b s))
+    below-wider : (level : ℕ) (b : List ℕ) (s : S) → run f (below visits d child level b (up s)) ≡ raised up (run f (below visit d child level b s))
     unfolding run below
     below-wider zero b s = refl
     below-wider (suc level) b s = wider-after (need (eqb (levelOf b) level) WrongLevel) _ _ (λ u. node-wider _ _ (below-wider level) b s)
 
-    pub scan-wider : (b : List ℕ) (s : S) → run f (scan visits d child b (up s)) ≡ mapped up (run f (scan visit d child b s))
+    pub scan-wider : (b : List ℕ) (s : S) → run f (scan visits d child b (up s)) ≡ raised up (run f (scan visit d child b s))
     unfolding scan
     scan-wider b s = node-wider _ _ (below-wider (levelOf b)) b s

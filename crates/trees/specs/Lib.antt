@@ -1,5 +1,2 @@
 -- What is done at the entries and nodes of trees.
-pub mod Visits
-pub mod Walks
-pub mod Read
-pub mod Answers
+pub mod contracts

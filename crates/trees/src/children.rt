@@ -1,100 +1,100 @@
 // The children of a node: their pointers, and the nodes that these name.
-use crate::Checkpoint;
+use crate::ChildStep;
 use crate::Purpose;
 use crate::Tree;
+use blocks::Address;
+use blocks::AddressAnswer;
+use blocks::Container;
+use blocks::NumberAnswer;
 use blocks::ObjectId;
+use blocks::Presence;
 use blocks::Refusal;
-use blocks::Seen;
-use checkpoint::Geometry;
-use checkpoint::Mapped;
+use checkpoint::Checkpoint;
 use nodes::Description;
-use nodes::Located;
-use nodes::Pointer;
-use queue::Child;
-ghost use mathlib.Core.List.{List, []};
+use nodes::EntryAnswer;
+use report::Cursor;
+use report::Ending;
+use report::Step;
+use report::steps;
 ghost use mathlib.Core.Path.{_≡_};
-ghost use Prim.Native.Nat.{ℕ, _+_, _-_, _<_};
-ghost use Rattle.blocks.specs.Reads.{run};
-ghost use Rattle.blocks.specs.Blocks.{blockOf};
-ghost use Rattle.blocks.specs.Answers.{seenAs};
-ghost use Rattle.nodes.specs.Node.{keyCount};
+ghost use Prim.Native.Nat.{_-_, _<_};
+ghost use Rattle.blocks.specs.contracts.Images.{bytes, blocksIn};
+ghost use Rattle.blocks.specs.contracts.Answers.{thereAs, numberAs, Always, Finds};
 ghost use Rattle.nodes.specs.Scan.{lookAt};
-ghost use Rattle.nodes.specs.Walk.{childrenFrom};
-ghost use Rattle.nodes.specs.Answers.{pointerAs};
-ghost use Rattle.queue.specs.Queue.{nodeBy};
-ghost use Rattle.queue.specs.Answers.{childIn};
-ghost use Rattle.trees.specs.Visits.{childFor, mappedIn, treeChild, pointerPast, oneBelow, childBelow};
-ghost use Rattle.trees.specs.Walks.{pointerOf as pointerIn, pointerAt, pointersDown};
-ghost use Rattle.trees.specs.Read.{NodeRead, WalkedFor, ChildRead};
+ghost use Rattle.report.specs.contracts.Steps.{Ahead};
+ghost use Rattle.trees.specs.contracts.Visits.{childOn, pointerPast, oneBelow, childOf};
+ghost use Rattle.trees.specs.contracts.Walks.{pointerOf as pointerIn, pointerAt};
+ghost use Rattle.trees.specs.contracts.Read.{NodeRead, WalkedFor, ChildRead};
+ghost use Rattle.trees.specs.contracts.Answers.{FindsPointers, FindsNext, childPast};
 
-// The child pointer of entry i.
-fn pointer_of(node: &[u8], d: Description, i: u64) -> Pointer
-    ensures { λ r. ⌜ ((f : ℕ → List ℕ) → pointerAs r ≡ run f (pointerIn d (now (node .entry)) i)) ⌝ }
+// The child pointer of entry index.
+fn pointer_of(node: &[u8], description: Description, index: u64) -> NumberAnswer
+    ensures { λ r. ⌜ Always (numberAs r) (pointerIn description (bytes node) index) ⌝ }
 {
-    let found = nodes::entries::entry(node, d, i);
+    let found = nodes::entries::entry(node, description, index);
     match found {
-        Located::Refused(r) => Pointer::Refused(r),
-        Located::At(e) => {
+        EntryAnswer::Refused(r) => NumberAnswer::Refused(r),
+        EntryAnswer::Given(e) => {
             let value = e.value;
             nodes::entries::pointer(node, value)
         }
     }
 }
 
-// The same where it was read before, and is there.
-pub fn pointer_at(node: &[u8], d: Description, i: u64) -> u64
-    ensures { λ r. ⌜ r ≡ pointerAt d (now (node .entry)) i ⌝ }
+// The child pointer of entry index where it was read before, and is there.
+pub(crate) fn pointer_at(node: &[u8], description: Description, index: u64) -> u64
+    ensures { λ r. ⌜ r ≡ pointerAt description (bytes node) index ⌝ }
 {
-    let pointer = pointer_of(node, d, i);
+    let pointer = pointer_of(node, description, index);
     match pointer {
-        Pointer::To(a) => a,
-        Pointer::Refused(_) => 0,
+        NumberAnswer::Given(a) => a,
+        NumberAnswer::Refused(_) => 0,
     }
 }
 
 // Whether all child pointers of a node are there, before the first child is read.
-pub fn children_there(node: &[u8], d: Description) -> Seen
-    ensures { λ r. ⌜ ((f : ℕ → List ℕ) → seenAs (pointersDown d (now (node .entry)) (keyCount (now (node .entry)))) r ≡ run f (childrenFrom d (now (node .entry)) (keyCount (now (node .entry))) 0 [])) ⌝ }
+pub(crate) fn children_there(node: &[u8], description: Description) -> Presence
+    ensures { λ r. ⌜ FindsPointers node description r ⌝ }
 {
     let n = nodes::node::key_count(node);
     let mut i = 0;
     while i < n {
-        let pointer = pointer_of(node, d, i);
+        let pointer = pointer_of(node, description, i);
         match pointer {
-            Pointer::Refused(r) => return Seen::Refused(r),
-            Pointer::To(_) => i += 1,
+            NumberAnswer::Refused(r) => return Presence::Refused(r),
+            NumberAnswer::Given(_) => i += 1,
         }
     }
-    Seen::There
+    Presence::There
 }
 
-// Whether entry i of n is there, where it is one of them.
-fn look_at(node: &[u8], d: Description, i: u64, n: u64) -> Seen
-    ensures { λ r. ⌜ ((f : ℕ → List ℕ) → seenAs tt r ≡ run f (lookAt d (now (node .entry)) (n - i) i)) ⌝ }
+// Whether the entry at a cursor is there, where one is left.
+fn look_at(node: &[u8], description: Description, index: u64, left: u64) -> Presence
+    ensures { λ r. ⌜ Always (thereAs tt r) (lookAt description (bytes node) left index) ⌝ }
 {
-    if n <= i {
-        return Seen::There;
+    if left == 0 {
+        return Presence::There;
     }
-    let found = nodes::entries::entry(node, d, i);
+    let found = nodes::entries::entry(node, description, index);
     match found {
-        Located::Refused(r) => Seen::Refused(r),
-        Located::At(_) => Seen::There,
+        EntryAnswer::Refused(r) => Presence::Refused(r),
+        EntryAnswer::Given(_) => Presence::There,
     }
 }
 
-// The pointer of entry i of n: the next entry is looked at before the child is read.
-fn pointer_past(node: &[u8], d: Description, i: u64, n: u64) -> Pointer
-    requires { ⌜ i < n ⌝ }
-    ensures { λ r. ⌜ ((f : ℕ → List ℕ) → pointerAs r ≡ run f (pointerPast d (now (node .entry)) (n - (i + 1)) i)) ⌝ }
+// The pointer of the entry at a cursor: the next entry is looked at before the child is read.
+fn pointer_past(node: &[u8], description: Description, at: Cursor) -> NumberAnswer
+    requires { ⌜ Ahead at ⌝ }
+    ensures { λ r. ⌜ Always (numberAs r) (pointerPast description (bytes node) (at .left - 1) (at .next)) ⌝ }
 {
-    let found = nodes::entries::entry(node, d, i);
+    let found = nodes::entries::entry(node, description, at.next);
     match found {
-        Located::Refused(r) => Pointer::Refused(r),
-        Located::At(e) => {
-            let looked = look_at(node, d, i + 1, n);
+        EntryAnswer::Refused(r) => NumberAnswer::Refused(r),
+        EntryAnswer::Given(e) => {
+            let looked = look_at(node, description, at.next + 1, at.left - 1);
             match looked {
-                Seen::Refused(r) => Pointer::Refused(r),
-                Seen::There => {
+                Presence::Refused(r) => NumberAnswer::Refused(r),
+                Presence::There => {
                     let value = e.value;
                     nodes::entries::pointer(node, value)
                 }
@@ -103,80 +103,78 @@ fn pointer_past(node: &[u8], d: Description, i: u64, n: u64) -> Pointer
     }
 }
 
-// A queue's child, by its id.
-fn child_by_id(image: &[u8], k: Checkpoint, id: u64) -> Child
-    ensures { λ r. ⌜ childIn (blockOf (now (image .entry)) (k .container .size)) r ≡ run (blockOf (now (image .entry)) (k .container .size)) (nodeBy (k .container) (mappedIn (blockOf (now (image .entry)) (k .container .size)) k id)) ⌝ }
-{
-    let container = k.container;
-    let g = Geometry {
-        size: container.size,
-        count: container.count,
-        base: k.base,
-        ring: k.ring,
-    };
-    let sb = blocks::block(image, container.size, k.superblock);
-    queue::node_by(image, container, g, sb, ObjectId(id))
-}
-
 // A child of the object map's tree was read before the tree is scanned; a queue's child is read here.
-fn child_for(image: &[u8], k: Checkpoint, purpose: Purpose, n: u64) -> Child
-    requires { ⌜ WalkedFor purpose (NodeRead (blockOf (now image) (k .container .size)) (k .container) n) ⌝ }
-    ensures { λ r. ⌜ childIn (blockOf (now (image .entry)) (k .container .size)) r ≡ run (blockOf (now (image .entry)) (k .container .size)) (childFor (k .container) (mappedIn (blockOf (now (image .entry)) (k .container .size)) k) purpose n) ⌝ }
+fn child_for(image: &[u8], checkpoint: Checkpoint, purpose: Purpose, pointer: u64) -> AddressAnswer
+    requires { ⌜ WalkedFor purpose (NodeRead (blocksIn image (checkpoint .container)) (checkpoint .container) pointer) ⌝ }
+    ensures { λ r. ⌜ Finds image (checkpoint .container) r (childOn checkpoint purpose pointer) ⌝ }
 {
     match purpose {
-        Purpose::Mappings => Child::At(n),
-        Purpose::PoolQueue => child_by_id(image, k, n),
-        Purpose::MainQueue => child_by_id(image, k, n),
+        Purpose::Mappings => AddressAnswer::Given(Address(pointer)),
+        Purpose::PoolQueue => queue::node_by(image, checkpoint, ObjectId(pointer)),
+        Purpose::MainQueue => queue::node_by(image, checkpoint, ObjectId(pointer)),
     }
 }
 
 // A child that was read must be one level below its parent.
-fn one_below(image: &[u8], size: u64, n: u64, level: u64) -> Child
-    ensures { λ r. ⌜ childIn (blockOf (now (image .entry)) size) r ≡ run (blockOf (now (image .entry)) size) (oneBelow level (blockOf (now (image .entry)) size n)) ⌝ }
+fn one_below(image: &[u8], container: Container, address: Address, level: u64) -> AddressAnswer
+    ensures { λ r. ⌜ Finds image container r (λ f. oneBelow level (f (address .0))) ⌝ }
 {
-    let child = blocks::block(image, size, n);
+    let child = blocks::block(image, container.size, address);
     if nodes::node::level(child) + 1 == level {
-        Child::At(n)
+        AddressAnswer::Given(address)
     } else {
-        Child::Refused(Refusal::WrongLevel)
+        AddressAnswer::Refused(Refusal::WrongLevel)
     }
 }
 
-// Child i of the n that an index node of a level has.
-pub fn next_child(image: &[u8], t: Tree, node: &[u8], level: u64, i: u64, n: u64) -> Child
-    requires { ⌜ (i < n) × ChildRead (blockOf (now image) (t .checkpoint .container .size)) t (now node) i ⌝ }
-    ensures { λ r. ⌜ childIn (blockOf (now (image .entry)) (t .checkpoint .container .size)) r ≡ run (blockOf (now (image .entry)) (t .checkpoint .container .size)) (childBelow (t .description) (treeChild (blockOf (now (image .entry)) (t .checkpoint .container .size)) t) level (now (node .entry)) (n - (i + 1)) i) ⌝ }
+// The child at a cursor along the entries of an index node of a level.
+fn child_at(image: &[u8], tree: Tree, node: &[u8], level: u64, at: Cursor) -> AddressAnswer
+    requires { ⌜ Ahead at × ChildRead (blocksIn image (tree .checkpoint .container)) tree (now node) (at .next) ⌝ }
+    ensures { λ r. ⌜ Finds image (tree .checkpoint .container) r (childOf tree level node at) ⌝ }
 {
-    let d = t.description;
-    let k = t.checkpoint;
-    let purpose = t.purpose;
-    let pointer = pointer_past(node, d, i, n);
+    let description = tree.description;
+    let checkpoint = tree.checkpoint;
+    let purpose = tree.purpose;
+    let pointer = pointer_past(node, description, at);
     match pointer {
-        Pointer::Refused(r) => Child::Refused(r),
-        Pointer::To(a) => {
-            let child = child_for(image, k, purpose, a);
+        NumberAnswer::Refused(r) => AddressAnswer::Refused(r),
+        NumberAnswer::Given(n) => {
+            let child = child_for(image, checkpoint, purpose, n);
             match child {
-                Child::Refused(r) => Child::Refused(r),
-                Child::At(c) => {
-                    let container = k.container;
-                    one_below(image, container.size, c, level)
+                AddressAnswer::Refused(r) => AddressAnswer::Refused(r),
+                AddressAnswer::Given(a) => {
+                    let container = checkpoint.container;
+                    one_below(image, container, a, level)
                 }
             }
         }
     }
 }
 
-// What the checkpoint map has for an id.
-pub fn mapped_at(image: &[u8], k: Checkpoint, id: u64) -> Mapped
-    ensures { λ r. ⌜ r ≡ mappedIn (blockOf (now (image .entry)) (k .container .size)) k id ⌝ }
+// The child at a cursor, and the cursor past it.
+pub(crate) fn next_child(image: &[u8], tree: Tree, node: &[u8], level: u64, at: Cursor) -> ChildStep
+    requires { ⌜ Ahead at × ChildRead (blocksIn image (tree .checkpoint .container)) tree (now node) (at .next) ⌝ }
+    ensures { λ r. ⌜ FindsNext image (tree .checkpoint .container) at r (childOf tree level node at) ⌝ }
 {
-    let container = k.container;
-    let g = Geometry {
-        size: container.size,
-        count: container.count,
-        base: k.base,
-        ring: k.ring,
-    };
-    let sb = blocks::block(image, container.size, k.superblock);
-    checkpoint::chain::lookup(image, g, sb, ObjectId(id))
+    let found = child_at(image, tree, node, level, at);
+    past(found, at)
+}
+
+// Past the child at a cursor, once it was found.
+pub(crate) fn past(found: AddressAnswer, at: Cursor) -> ChildStep
+    ensures { λ r. ⌜ r ≡ childPast found at ⌝ }
+{
+    match found {
+        AddressAnswer::Refused(r) => {
+            let step = Step::Refused(r);
+            ChildStep {
+                step,
+                child: Address(0),
+            }
+        }
+        AddressAnswer::Given(child) => {
+            let step = steps::past(Ending::Done, at);
+            ChildStep { step, child }
+        }
+    }
 }

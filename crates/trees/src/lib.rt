@@ -1,15 +1,17 @@
 // Trees scanned for their entries and walked for their nodes (btree.rs).
 use audit::Audit;
-use blocks::Container;
+use blocks::Address;
 use blocks::Refusal;
+use checkpoint::Checkpoint;
 use nodes::Description;
 use pool::PoolPlace;
+use report::Ending;
 use report::OverlapLog;
 use report::Step;
 
-pub mod children;
+mod children;
 pub mod queues;
-pub mod scans;
+mod scans;
 pub mod walks;
 
 // What the entries of a scanned tree are for.
@@ -17,14 +19,6 @@ pub enum Purpose {
     PoolQueue,
     Mappings,
     MainQueue,
-}
-
-// The checkpoint that a pass takes: its container, the descriptor area that block 0 names, and its superblock's block.
-pub struct Checkpoint {
-    pub container: Container,
-    pub base: u64,
-    pub ring: u64,
-    pub superblock: u64,
 }
 
 // A tree to scan.
@@ -41,10 +35,22 @@ pub struct Figures {
     pub overlaps: OverlapLog,
 }
 
-// The figures after a step that also changed the block map.
+// The figures after a step that also changed the block map; where it was refused, they say nothing.
 pub struct Visited {
+    pub ending: Ending,
+    pub figures: Figures,
+}
+
+// The figures after a step along the entries of a leaf, and where it came to.
+pub struct VisitStep {
     pub step: Step,
     pub figures: Figures,
+}
+
+// Where a step along the children of a node came to, and the child that it found.
+pub struct ChildStep {
+    pub step: Step,
+    pub child: Address,
 }
 
 // How a walk goes on at a node that was visited.
@@ -54,15 +60,15 @@ pub enum Way {
     Refused(Refusal),
 }
 
-// A walk so far: how many nodes may still come, and the claims' log.
-pub struct Walked {
-    pub step: Step,
-    pub left: u64,
-    pub log: OverlapLog,
-}
-
 // The claims' log after a node was visited.
 pub struct Entered {
     pub way: Way,
+    pub log: OverlapLog,
+}
+
+// How a walk of the nodes below one ended, how many nodes may still come, and the claims' log.
+pub struct Walked {
+    pub ending: Ending,
+    pub left: u64,
     pub log: OverlapLog,
 }

@@ -2,235 +2,227 @@
 use crate::Figures;
 use crate::Purpose;
 use crate::Tree;
+use crate::VisitStep;
 use crate::Visited;
 use crate::children::next_child;
+use audit::Audit;
+use audit::Audited;
+use blocks::Address;
 use blocks::Refusal;
-use nodes::Located;
-use nodes::Places;
-use queue::Child;
+use claims::Claimed;
+use nodes::EntryAnswer;
+use nodes::EntryPlace;
+use report::Cursor;
+use report::Ending;
+use report::OverlapLog;
 use report::Step;
+use report::steps;
 ghost use mathlib.Core.Path.{_≡_};
-ghost use Prim.Native.Nat.{ℕ, _-_, _≤_};
-ghost use Rattle.blocks.specs.Blocks.{blockOf};
-ghost use Rattle.nodes.specs.Node.{keyCount};
-ghost use Rattle.nodes.specs.Scan.{leafFrom, scanNode, below, scan as scanOf};
-ghost use Rattle.block_map.specs.BlockMap.{Unlogged};
-ghost use Rattle.queue.specs.Answers.{placesIn};
-ghost use Rattle.trees.specs.Visits.{treeVisit, treeChild};
-ghost use Rattle.trees.specs.Read.{ScanRead};
-ghost use Rattle.trees.specs.declared.Purpose.the-variants.{PoolQueue, Mappings, MainQueue};
-ghost use Rattle.trees.specs.Answers.{Visits, LeafTo, figured};
+ghost use Rattle.report.specs.contracts.Steps.{Ahead, Within};
+ghost use Rattle.trees.specs.contracts.Answers.{Visits, VisitsNext, VisitsUnlogged, LeafTo, ScanReadAt, entryVisit, leafLeft, leafScan, nodeScan, treeScan};
 
-pub(crate) fn refused(r: Refusal, figures: Figures) -> Visited
-    ensures { λ v. ⌜ v ≡ record { step = Step.Refused r; figures = figures } ⌝ }
+pub(crate) fn refused(why: Refusal, figures: Figures) -> Visited
+    ensures { λ v. ⌜ v ≡ record { ending = Ending.Refused why; figures = figures } ⌝ }
 {
-    let step = Step::Refused(r);
-    Visited { step, figures }
+    let ending = Ending::Refused(why);
+    Visited { ending, figures }
 }
 
 pub(crate) fn done(figures: Figures) -> Visited
-    ensures { λ v. ⌜ v ≡ record { step = Step.Done; figures = figures } ⌝ }
+    ensures { λ v. ⌜ v ≡ record { ending = Ending.Done; figures = figures } ⌝ }
 {
-    let step = Step::Done;
-    Visited { step, figures }
+    let ending = Ending::Done;
+    Visited { ending, figures }
 }
 
-// An entry of the pool queue is audited; the claims' log is left as it is.
-fn audit_entry(
-    image: &[u8],
-    map: &mut [u8],
-    t: Tree,
-    node: &[u8],
-    e: Places,
-    figures: Figures,
-) -> Visited
-    ensures { λ r. ⌜ Visits (now (image .entry)) (t .checkpoint) r (now (map .entry)) (now (map .exit)) (treeVisit (blockOf (now (image .entry)) (t .checkpoint .container .size)) t PoolQueue (figured (now (map .entry)) figures) (placesIn (now (node .entry)) e)) ⌝ }
+// What was audited, beside the overlaps as they were.
+fn with_audit(audited: Audited, overlaps: OverlapLog) -> Visited
+    ensures { λ v. ⌜ v ≡ record { ending = audited .ending; figures = record { audit = audited .audit; overlaps = overlaps } } ⌝ }
 {
-    let k = t.checkpoint;
-    let container = k.container;
-    let place = t.pool;
-    let audit = figures.audit;
-    let overlaps = figures.overlaps;
-    let audited = audit::queued::audit_queued(image, map, node, container, place, e, audit);
-    let step = audited.step;
+    let ending = audited.ending;
     let audit = audited.audit;
     let figures = Figures { audit, overlaps };
-    Visited { step, figures }
+    Visited { ending, figures }
 }
 
-// The blocks of an entry of the main queue are claimed; the audit's figures are left as they are.
-fn claim_entry(
-    image: &[u8],
-    map: &mut [u8],
-    t: Tree,
-    node: &[u8],
-    e: Places,
-    figures: Figures,
-) -> Visited
-    ensures { λ r. ⌜ Visits (now (image .entry)) (t .checkpoint) r (now (map .entry)) (now (map .exit)) (treeVisit (blockOf (now (image .entry)) (t .checkpoint .container .size)) t MainQueue (figured (now (map .entry)) figures) (placesIn (now (node .entry)) e)) ⌝ }
+// What was claimed, beside the audit as it was.
+fn with_claims(audit: Audit, claimed: Claimed) -> Visited
+    ensures { λ v. ⌜ v ≡ record { ending = claimed .ending; figures = record { audit = audit; overlaps = claimed .log } } ⌝ }
 {
-    let k = t.checkpoint;
-    let container = k.container;
-    let audit = figures.audit;
-    let overlaps = figures.overlaps;
-    let claimed = claims::claim_queued(map, node, container, e, overlaps);
-    let step = claimed.step;
+    let ending = claimed.ending;
     let overlaps = claimed.log;
     let figures = Figures { audit, overlaps };
-    Visited { step, figures }
+    Visited { ending, figures }
 }
 
-// The same for a mapping of the object map.
-fn claim_mapping(
+// What an entry is for.
+fn visit(
     image: &[u8],
     map: &mut [u8],
-    t: Tree,
+    tree: Tree,
     node: &[u8],
-    e: Places,
+    entry: EntryPlace,
     figures: Figures,
 ) -> Visited
-    ensures { λ r. ⌜ Visits (now (image .entry)) (t .checkpoint) r (now (map .entry)) (now (map .exit)) (treeVisit (blockOf (now (image .entry)) (t .checkpoint .container .size)) t Mappings (figured (now (map .entry)) figures) (placesIn (now (node .entry)) e)) ⌝ }
+    ensures { λ r. ⌜ Visits image map (tree .checkpoint) figures r (entryVisit tree (tree .purpose) node entry) ⌝ }
 {
-    let k = t.checkpoint;
-    let container = k.container;
+    let checkpoint = tree.checkpoint;
+    let container = checkpoint.container;
+    let place = tree.pool;
     let audit = figures.audit;
-    let overlaps = figures.overlaps;
-    let claimed = claims::claim_mapping(map, node, container, e, overlaps);
-    let step = claimed.step;
-    let overlaps = claimed.log;
-    let figures = Figures { audit, overlaps };
-    Visited { step, figures }
-}
-
-// What the entry is for.
-fn visit(image: &[u8], map: &mut [u8], t: Tree, node: &[u8], e: Places, figures: Figures) -> Visited
-    ensures { λ r. ⌜ Visits (now (image .entry)) (t .checkpoint) r (now (map .entry)) (now (map .exit)) (treeVisit (blockOf (now (image .entry)) (t .checkpoint .container .size)) t (t .purpose) (figured (now (map .entry)) figures) (placesIn (now (node .entry)) e)) ⌝ }
-{
-    let purpose = t.purpose;
-    match purpose {
-        Purpose::PoolQueue => audit_entry(image, map, t, node, e, figures),
-        Purpose::Mappings => claim_mapping(image, map, t, node, e, figures),
-        Purpose::MainQueue => claim_entry(image, map, t, node, e, figures),
-    }
-}
-
-// What the entry is for, where nothing is logged of it: then it is done, and otherwise nothing is.
-fn visit_unlogged(image: &[u8], map: &mut [u8], t: Tree, node: &[u8], e: Places) -> bool
-    ensures { λ r. ⌜ Unlogged (blockOf (now (image .entry)) (t .checkpoint .container .size)) (t .checkpoint .container .count) r (now (map .entry)) (now (map .exit)) (λ s. treeVisit (blockOf (now (image .entry)) (t .checkpoint .container .size)) t (t .purpose) s (placesIn (now (node .entry)) e)) ⌝ }
-{
-    let k = t.checkpoint;
-    let container = k.container;
-    let place = t.pool;
-    let purpose = t.purpose;
+    let log = figures.overlaps;
+    let purpose = tree.purpose;
     match purpose {
         Purpose::PoolQueue => {
-            audit::unlogged::audit_unlogged(image, map, node, container, place, e)
+            let audited = audit::queued::audit_queued(
+                image,
+                map,
+                node,
+                container,
+                place,
+                entry,
+                audit,
+            );
+            with_audit(audited, log)
         }
-        Purpose::Mappings => claims::unlogged::claim_mapping(map, node, container, e),
-        Purpose::MainQueue => claims::unlogged::claim_queued(map, node, container, e),
+        Purpose::Mappings => {
+            let claimed = claims::claim_mapping(map, node, container, entry, log);
+            with_claims(audit, claimed)
+        }
+        Purpose::MainQueue => {
+            let claimed = claims::claim_queued(map, node, container, entry, log);
+            with_claims(audit, claimed)
+        }
     }
 }
 
-// The entries of a leaf from i on, of n, up to the first that may log something, or n: the logs would be copied for each.
-fn leaf_unlogged(image: &[u8], map: &mut [u8], t: Tree, node: &[u8], i: u64, n: u64) -> u64
-    requires { ⌜ i ≤ n ⌝ }
-    ensures { λ r. ⌜ LeafTo (blockOf (now (image .entry)) (t .checkpoint .container .size)) t (now (node .entry)) n i r (now (map .entry)) (now (map .exit)) ⌝ }
+// What an entry is for, where nothing is logged of it: then it is done, and otherwise nothing is.
+fn visit_unlogged(image: &[u8], map: &mut [u8], tree: Tree, node: &[u8], entry: EntryPlace) -> bool
+    ensures { λ r. ⌜ VisitsUnlogged image map tree node entry r ⌝ }
 {
-    let d = t.description;
-    let mut k = i;
-    while k < n {
-        let located = nodes::entries::entry(node, d, k);
-        match located {
-            Located::Refused(_) => return k,
-            Located::At(e) => {
-                if visit_unlogged(image, map, t, node, e) {
-                    k += 1;
+    let checkpoint = tree.checkpoint;
+    let container = checkpoint.container;
+    let place = tree.pool;
+    let purpose = tree.purpose;
+    match purpose {
+        Purpose::PoolQueue => {
+            audit::unlogged::audit_unlogged(image, map, node, container, place, entry)
+        }
+        Purpose::Mappings => claims::unlogged::claim_mapping(map, node, container, entry),
+        Purpose::MainQueue => claims::unlogged::claim_queued(map, node, container, entry),
+    }
+}
+
+// The entries of a leaf from a cursor on, up to the first that may log something: the logs would be copied for each.
+fn leaf_unlogged(image: &[u8], map: &mut [u8], tree: Tree, node: &[u8], from: Cursor) -> Cursor
+    requires { ⌜ Within from ⌝ }
+    ensures { λ r. ⌜ LeafTo image map tree node from r ⌝ }
+{
+    let description = tree.description;
+    let mut at = from;
+    while at.left != 0 {
+        let found = nodes::entries::entry(node, description, at.next);
+        match found {
+            EntryAnswer::Refused(_) => return at,
+            EntryAnswer::Given(entry) => {
+                if visit_unlogged(image, map, tree, node, entry) {
+                    let next = at.next + 1;
+                    let left = at.left - 1;
+                    at = Cursor { next, left };
                 } else {
-                    return k;
+                    return at;
                 }
             }
         }
     }
-    k
+    at
 }
 
-// The entries of a leaf from first on, of n, each with the figures; what follows one may log nothing.
-fn scan_leaf_from(
+// The entry of a leaf at a cursor, with the figures.
+fn visit_next(
     image: &[u8],
     map: &mut [u8],
-    t: Tree,
+    tree: Tree,
     node: &[u8],
-    first: u64,
-    n: u64,
+    at: Cursor,
     figures: Figures,
-) -> Visited
-    ensures { λ r. ⌜ Visits (now (image .entry)) (t .checkpoint) r (now (map .entry)) (now (map .exit)) (leafFrom (treeVisit (blockOf (now (image .entry)) (t .checkpoint .container .size)) t (t .purpose)) (t .description) (treeChild (blockOf (now (image .entry)) (t .checkpoint .container .size)) t) (now (node .entry)) (n - first) first (figured (now (map .entry)) figures)) ⌝ }
+) -> VisitStep
+    requires { ⌜ Ahead at ⌝ }
+    ensures { λ r. ⌜ VisitsNext image map tree at figures r (leafLeft tree node) ⌝ }
 {
-    let d = t.description;
+    let description = tree.description;
+    let found = nodes::entries::entry(node, description, at.next);
+    match found {
+        EntryAnswer::Refused(r) => {
+            let step = Step::Refused(r);
+            VisitStep { step, figures }
+        }
+        EntryAnswer::Given(entry) => {
+            let visited = visit(image, map, tree, node, entry, figures);
+            let ending = visited.ending;
+            let figures = visited.figures;
+            let step = steps::past(ending, at);
+            VisitStep { step, figures }
+        }
+    }
+}
+
+// The entries of a leaf; what follows one that was visited with the figures may log nothing.
+fn scan_leaf(image: &[u8], map: &mut [u8], tree: Tree, node: &[u8], figures: Figures) -> Visited
+    ensures { λ r. ⌜ Visits image map (tree .checkpoint) figures r (leafScan tree node) ⌝ }
+{
+    let n = nodes::node::key_count(node);
     let mut found = figures;
-    let mut i = first;
-    while i < n {
-        let located = nodes::entries::entry(node, d, i);
-        match located {
-            Located::Refused(r) => return refused(r, found),
-            Located::At(e) => {
-                let visited = visit(image, map, t, node, e, found);
-                let step = visited.step;
-                match step {
-                    Step::Refused(_) => return visited,
-                    Step::Done => {
-                        found = visited.figures;
-                        i = leaf_unlogged(image, map, t, node, i + 1, n);
-                    }
-                }
+    let mut at = leaf_unlogged(image, map, tree, node, Cursor { next: 0, left: n });
+    while at.left != 0 {
+        let visited = visit_next(image, map, tree, node, at, found);
+        let step = visited.step;
+        match step {
+            Step::Refused(r) => return refused(r, found),
+            Step::On(to) => {
+                found = visited.figures;
+                at = leaf_unlogged(image, map, tree, node, to);
             }
         }
     }
     done(found)
 }
 
-// The entries of a leaf.
-fn scan_leaf(image: &[u8], map: &mut [u8], t: Tree, node: &[u8], figures: Figures) -> Visited
-    ensures { λ r. ⌜ Visits (now (image .entry)) (t .checkpoint) r (now (map .entry)) (now (map .exit)) (leafFrom (treeVisit (blockOf (now (image .entry)) (t .checkpoint .container .size)) t (t .purpose)) (t .description) (treeChild (blockOf (now (image .entry)) (t .checkpoint .container .size)) t) (now (node .entry)) (keyCount (now (node .entry))) 0 (figured (now (map .entry)) figures)) ⌝ }
-{
-    let n = nodes::node::key_count(node);
-    let first = leaf_unlogged(image, map, t, node, 0, n);
-    scan_leaf_from(image, map, t, node, first, n, figures)
-}
-
-// All entries below the node in block at, of a level: the scan calls itself on each child, one level below.
+// All entries below the node at an address, of a level: the scan calls itself on each child, one level below.
 fn scan_node(
     image: &[u8],
     map: &mut [u8],
-    t: Tree,
-    at: u64,
+    tree: Tree,
+    address: Address,
     level: u64,
     figures: Figures,
 ) -> Visited
-    requires { ⌜ ScanRead (blockOf (now image) (t .checkpoint .container .size)) t (blockOf (now image) (t .checkpoint .container .size) at) ⌝ }
-    ensures { λ r. ⌜ Visits (now (image .entry)) (t .checkpoint) r (now (map .entry)) (now (map .exit)) (scanNode (treeVisit (blockOf (now (image .entry)) (t .checkpoint .container .size)) t (t .purpose)) (t .description) (treeChild (blockOf (now (image .entry)) (t .checkpoint .container .size)) t) (below (treeVisit (blockOf (now (image .entry)) (t .checkpoint .container .size)) t (t .purpose)) (t .description) (treeChild (blockOf (now (image .entry)) (t .checkpoint .container .size)) t) level) (blockOf (now (image .entry)) (t .checkpoint .container .size) at) (figured (now (map .entry)) figures)) ⌝ }
+    requires { ⌜ ScanReadAt image tree address ⌝ }
+    ensures { λ r. ⌜ Visits image map (tree .checkpoint) figures r (nodeScan tree level address) ⌝ }
 {
-    let k = t.checkpoint;
-    let container = k.container;
-    let node = blocks::block(image, container.size, at);
+    let checkpoint = tree.checkpoint;
+    let container = checkpoint.container;
+    let node = blocks::block(image, container.size, address);
     if nodes::node::is_leaf(node) {
-        return scan_leaf(image, map, t, node, figures);
+        return scan_leaf(image, map, tree, node, figures);
     }
     let n = nodes::node::key_count(node);
     let mut found = figures;
-    let mut i = 0;
-    while i < n {
-        let child = next_child(image, t, node, level, i, n);
-        match child {
-            Child::Refused(r) => return refused(r, found),
-            Child::At(c) => {
-                let visited = scan_node(image, map, t, c, level - 1, found);
-                let step = visited.step;
-                match step {
-                    Step::Refused(_) => return visited,
-                    Step::Done => {
+    let mut at = Cursor { next: 0, left: n };
+    while at.left != 0 {
+        let moved = next_child(image, tree, node, level, at);
+        let step = moved.step;
+        match step {
+            Step::Refused(r) => return refused(r, found),
+            Step::On(to) => {
+                let child = moved.child;
+                let visited = scan_node(image, map, tree, child, level - 1, found);
+                let ending = visited.ending;
+                match ending {
+                    Ending::Refused(_) => return visited,
+                    Ending::Done => {
                         found = visited.figures;
-                        i += 1;
+                        at = to;
                     }
                 }
             }
@@ -239,13 +231,19 @@ fn scan_node(
     done(found)
 }
 
-// All entries of the tree whose root is in block at.
-pub fn scan(image: &[u8], map: &mut [u8], t: Tree, at: u64, figures: Figures) -> Visited
-    requires { ⌜ ScanRead (blockOf (now image) (t .checkpoint .container .size)) t (blockOf (now image) (t .checkpoint .container .size) at) ⌝ }
-    ensures { λ r. ⌜ Visits (now (image .entry)) (t .checkpoint) r (now (map .entry)) (now (map .exit)) (scanOf (treeVisit (blockOf (now (image .entry)) (t .checkpoint .container .size)) t (t .purpose)) (t .description) (treeChild (blockOf (now (image .entry)) (t .checkpoint .container .size)) t) (blockOf (now (image .entry)) (t .checkpoint .container .size) at) (figured (now (map .entry)) figures)) ⌝ }
+// All entries of the tree whose root is at an address.
+pub(crate) fn scan(
+    image: &[u8],
+    map: &mut [u8],
+    tree: Tree,
+    root: Address,
+    figures: Figures,
+) -> Visited
+    requires { ⌜ ScanReadAt image tree root ⌝ }
+    ensures { λ r. ⌜ Visits image map (tree .checkpoint) figures r (treeScan tree root) ⌝ }
 {
-    let k = t.checkpoint;
-    let container = k.container;
-    let level = nodes::node::level(blocks::block(image, container.size, at));
-    scan_node(image, map, t, at, level, figures)
+    let checkpoint = tree.checkpoint;
+    let container = checkpoint.container;
+    let level = nodes::node::level(blocks::block(image, container.size, root));
+    scan_node(image, map, tree, root, level, figures)
 }

@@ -1,144 +1,193 @@
 // A physical walk claims a tree's nodes, parent first and last child first.
+use crate::ChildStep;
 use crate::Entered;
 use crate::Walked;
 use crate::Way;
 use crate::children::children_there;
+use crate::children::past;
 use crate::children::pointer_at;
 use blocks::Address;
+use blocks::AddressAnswer;
 use blocks::Container;
+use blocks::Presence;
 use blocks::Refusal;
-use blocks::Seen;
 use claims::Claimed;
 use nodes::Description;
+use report::Cursor;
+use report::Ending;
 use report::OverlapLog;
 use report::Step;
 ghost use mathlib.Core.Path.{_≡_};
-ghost use Prim.Native.Nat.{_<_};
+ghost use Prim.Native.Nat.{_-_, _%_, _<_};
 ghost use Rattle.blocks.specs.Reads.{run};
-ghost use Rattle.blocks.specs.Blocks.{blockOf};
-ghost use Rattle.blocks.specs.Answers.{seenAs};
+ghost use Rattle.blocks.specs.contracts.Images.{bytes, blocksIn};
+ghost use Rattle.blocks.specs.contracts.Answers.{addressAs};
 ghost use Rattle.nodes.specs.Walk.{walkBelow, walk as walkOf};
+ghost use Rattle.report.specs.contracts.Steps.{Ahead};
 ghost use Rattle.claims.specs.Claims.{claimNode};
-ghost use Rattle.claims.specs.Answers.{owned};
-ghost use Rattle.trees.specs.Walks.{nextNode};
-ghost use Rattle.trees.specs.Read.{NodeRead};
-ghost use Rattle.trees.specs.Answers.{WayOf, Enters, Walks, WalksWhole, walked};
+ghost use Rattle.trees.specs.contracts.Walks.{nextNode, pointerAt};
+ghost use Rattle.trees.specs.contracts.Read.{NodeRead};
+ghost use Rattle.trees.specs.contracts.Answers.{WayOf, Enters, WalksFrom, ClaimsAs, NamesNext};
 
 // The root is the first level.
 const MOST_LEVELS: u64 = 33;
 
 // Which way a node's children go: all their pointers are there before the first child is read.
-fn way_of(node: &[u8], d: Description) -> Way
-    ensures { λ r. ⌜ WayOf d (now (node .entry)) r ⌝ }
+fn way_of(node: &[u8], description: Description) -> Way
+    ensures { λ r. ⌜ WayOf description (bytes node) r ⌝ }
 {
     if nodes::node::is_leaf(node) {
         return Way::Leaf;
     }
-    let seen = children_there(node, d);
+    let seen = children_there(node, description);
     match seen {
-        Seen::Refused(r) => Way::Refused(r),
-        Seen::There => Way::Index,
+        Presence::Refused(r) => Way::Refused(r),
+        Presence::There => Way::Index,
     }
 }
 
-fn refused(r: Refusal, log: OverlapLog) -> Entered
-    ensures { λ e. ⌜ e ≡ record { way = Way.Refused r; log = log } ⌝ }
+fn refused(why: Refusal, log: OverlapLog) -> Entered
+    ensures { λ e. ⌜ e ≡ record { way = Way.Refused why; log = log } ⌝ }
 {
-    let way = Way::Refused(r);
+    let way = Way::Refused(why);
     Entered { way, log }
 }
 
-// The node at a, which was read, is claimed.
+// The node at an address, which was read, is claimed.
 fn enter(
     image: &[u8],
     map: &mut [u8],
     container: Container,
-    d: Description,
-    a: u64,
+    kind: u8,
+    description: Description,
+    address: Address,
     log: OverlapLog,
 ) -> Entered
-    requires { ⌜ NodeRead (blockOf (now image) (container .size)) container a ⌝ }
-    ensures { λ r. ⌜ Enters (now (image .entry)) container d a r (now (map .entry)) (now (map .exit)) log ⌝ }
+    requires { ⌜ NodeRead (blocksIn image container) container (address .0) ⌝ }
+    ensures { λ r. ⌜ Enters (bytes image) container (kind % 16) description (address .0) r (bytes map) (now (map .exit)) log ⌝ }
 {
-    let claimed = claims::claim_node(map, container, Address(a), log);
-    let step = claimed.step;
+    let claimed = claims::claim_node(map, container, kind, address, log);
+    let ending = claimed.ending;
     let log = claimed.log;
-    match step {
-        Step::Refused(r) => refused(r, log),
-        Step::Done => {
-            let node = blocks::block(image, container.size, a);
-            let way = way_of(node, d);
+    match ending {
+        Ending::Refused(r) => refused(r, log),
+        Ending::Done => {
+            let node = blocks::block(image, container.size, address);
+            let way = way_of(node, description);
             Entered { way, log }
         }
     }
 }
 
-// The node at a is read where one more level and one more node may come: refusal 22 comes before.
-fn read_next(image: &[u8], container: Container, a: u64, levels: u64, left: u64) -> Seen
-    ensures { λ r. ⌜ seenAs (blockOf (now (image .entry)) (container .size) a) r ≡ run (blockOf (now (image .entry)) (container .size)) (nextNode container levels left a) ⌝ }
+// The node at an address is read where one more level and one more node may come: refusal 22 comes before.
+fn read_next(
+    image: &[u8],
+    container: Container,
+    address: Address,
+    levels: u64,
+    left: u64,
+) -> AddressAnswer
+    ensures { λ r. ⌜ addressAs r ≡ run (blocksIn (image .entry) container) (nextNode container levels left (address .0)) ⌝ }
 {
     if levels == 0 {
-        return Seen::Refused(Refusal::TooManyNodes);
+        return AddressAnswer::Refused(Refusal::TooManyNodes);
     }
     if left == 0 {
-        return Seen::Refused(Refusal::TooManyNodes);
+        return AddressAnswer::Refused(Refusal::TooManyNodes);
     }
-    nodes::node::read_node(image, container, Address(a))
+    let seen = nodes::node::read_node(image, container, address);
+    match seen {
+        Presence::Refused(r) => AddressAnswer::Refused(r),
+        Presence::There => AddressAnswer::Given(address),
+    }
 }
 
-fn stopped(r: Refusal, left: u64, log: OverlapLog) -> Walked
-    ensures { λ w. ⌜ w ≡ record { step = Step.Refused r; left = left; log = log } ⌝ }
+// The child at a cursor, which counts a node's children from the last.
+fn next_below(
+    image: &[u8],
+    container: Container,
+    description: Description,
+    node: &[u8],
+    levels: u64,
+    left: u64,
+    at: Cursor,
+) -> ChildStep
+    requires { ⌜ Ahead at ⌝ }
+    ensures { λ r. ⌜ NamesNext image container at r (nextNode container levels left (pointerAt description (bytes node) (at .left - 1))) ⌝ }
 {
-    let step = Step::Refused(r);
-    Walked { step, left, log }
+    let pointer = pointer_at(node, description, at.left - 1);
+    let found = read_next(image, container, Address(pointer), levels, left);
+    past(found, at)
+}
+
+fn stopped(why: Refusal, left: u64, log: OverlapLog) -> Walked
+    ensures { λ w. ⌜ w ≡ record { ending = Ending.Refused why; left = left; log = log } ⌝ }
+{
+    let ending = Ending::Refused(why);
+    Walked { ending, left, log }
 }
 
 fn done(left: u64, log: OverlapLog) -> Walked
-    ensures { λ w. ⌜ w ≡ record { step = Step.Done; left = left; log = log } ⌝ }
+    ensures { λ w. ⌜ w ≡ record { ending = Ending.Done; left = left; log = log } ⌝ }
 {
-    let step = Step::Done;
-    Walked { step, left, log }
+    let ending = Ending::Done;
+    Walked { ending, left, log }
 }
 
-// The node at a, which was read, and all below it, of at most so many levels; left nodes may still come, this one among them.
+// The node at an address, which was read, and all below it, of at most so many levels; left nodes may still come, this one among them.
 fn walk_below(
     image: &[u8],
     map: &mut [u8],
     container: Container,
-    d: Description,
-    a: u64,
+    kind: u8,
+    description: Description,
+    address: Address,
     levels: u64,
     left: u64,
     log: OverlapLog,
 ) -> Walked
-    requires { ⌜ (0 < levels) × (0 < left) × NodeRead (blockOf (now image) (container .size)) container a ⌝ }
-    ensures { λ r. ⌜ Walks (now (image .entry)) container r (now (map .entry)) (now (map .exit)) (walkBelow (claimNode container) container d levels a (walked (now (map .entry)) left log)) ⌝ }
+    requires { ⌜ (0 < levels) × (0 < left) × NodeRead (blocksIn image container) container (address .0) ⌝ }
+    ensures { λ r. ⌜ WalksFrom image map container left log r (walkBelow (claimNode container (kind % 16)) container description levels (address .0)) ⌝ }
 {
-    let entered = enter(image, map, container, d, a, log);
+    let entered = enter(image, map, container, kind, description, address, log);
     let way = entered.way;
     let mut found = entered.log;
     match way {
         Way::Refused(r) => stopped(r, left, found),
         Way::Leaf => done(left - 1, found),
         Way::Index => {
-            let node = blocks::block(image, container.size, a);
-            let levels = levels - 1;
+            let node = blocks::block(image, container.size, address);
+            let below = levels - 1;
             let mut left = left - 1;
-            let mut k = nodes::node::key_count(node);
-            while 0 < k {
-                k -= 1;
-                let child = pointer_at(node, d, k);
-                let seen = read_next(image, container, child, levels, left);
-                match seen {
-                    Seen::Refused(r) => return stopped(r, left, found),
-                    Seen::There => {
-                        let w = walk_below(image, map, container, d, child, levels, left, found);
-                        let step = w.step;
-                        match step {
-                            Step::Refused(_) => return w,
-                            Step::Done => {
+            let mut at = Cursor {
+                next: 0,
+                left: nodes::node::key_count(node),
+            };
+            while at.left != 0 {
+                let moved = next_below(image, container, description, node, below, left, at);
+                let step = moved.step;
+                match step {
+                    Step::Refused(r) => return stopped(r, left, found),
+                    Step::On(to) => {
+                        let child = moved.child;
+                        let w = walk_below(
+                            image,
+                            map,
+                            container,
+                            kind,
+                            description,
+                            child,
+                            below,
+                            left,
+                            found,
+                        );
+                        let ending = w.ending;
+                        match ending {
+                            Ending::Refused(_) => return w,
+                            Ending::Done => {
                                 left = w.left;
                                 found = w.log;
+                                at = to;
                             }
                         }
                     }
@@ -149,29 +198,31 @@ fn walk_below(
     }
 }
 
-// All nodes of the tree whose root is at an address and was read, each claimed; no more of them than the container has blocks.
+// All nodes of the tree whose root is at an address and was read, each claimed by a kind; no more of them than the container has blocks.
 pub fn walk(
     image: &[u8],
     map: &mut [u8],
     container: Container,
-    d: Description,
+    kind: u8,
+    description: Description,
     root: Address,
     log: OverlapLog,
 ) -> Claimed
-    requires { ⌜ NodeRead (blockOf (now image) (container .size)) container (root .0) ⌝ }
-    ensures { λ r. ⌜ WalksWhole (now (image .entry)) container r (now (map .entry)) (now (map .exit)) (walkOf (claimNode container) container d root (owned (now (map .entry)) log)) ⌝ }
+    requires { ⌜ NodeRead (blocksIn image container) container (root .0) ⌝ }
+    ensures { λ r. ⌜ ClaimsAs image map container log r (λ f. walkOf (claimNode container (kind % 16)) container description root) ⌝ }
 {
-    let done = walk_below(
+    let walked = walk_below(
         image,
         map,
         container,
-        d,
-        root.0,
+        kind,
+        description,
+        root,
         MOST_LEVELS,
         container.count,
         log,
     );
-    let step = done.step;
-    let log = done.log;
-    Claimed { step, log }
+    let ending = walked.ending;
+    let log = walked.log;
+    Claimed { ending, log }
 }

@@ -8,10 +8,13 @@ use Rattle.block_map.proofs.clear.Statement.{statement}
 use Rattle.block_map.proofs.clear.Tie as tie
 
 abbrev Inv-loop : tie.InvT-loop
-Inv-loop map₀ count end at₀ map at = (at ≤ count) × (length map ≡ length map₀) × (map ≡ cleared at map₀)
+Inv-loop map₀ count end at₀ map at = (at ≤ end) × (length map ≡ length map₀) × (map ≡ cleared at map₀)
 
 abbrev μ-loop : tie.MeasureT-loop
-μ-loop map₀ count end at₀ map at = count - at
+μ-loop map₀ count end at₀ map at = end - at
+
+least-requires : tie.Need-least-requires Inv-loop μ-loop
+least-requires c κs = search needs
 
 loop-holds : tie.Need-loop-holds Inv-loop μ-loop
 unfolding cleared
@@ -57,7 +60,7 @@ same-length : tie.Need-same-length Inv-loop μ-loop
 same-length c = search needs
 
 returns : tie.Need-returns Inv-loop μ-loop
-returns c = row-cleared _ _ _ _ _ (search needs) (search needs) (c .before .before .before .before .before .loop .inv .2) (c .before .before .clear-row2 .ensures)
+returns c = rw (← c .before .before .before .before .before .before .least .ensures) (row-cleared _ _ _ _ _ (search needs) (search needs) (c .before .before .before .before .before .loop .inv .2) (c .before .before .clear-row2 .ensures))
 
 pub clear-spec : {M : Type 1} → statement M
 clear-spec =
@@ -65,6 +68,7 @@ clear-spec =
     (tie.spec
     Inv-loop
     μ-loop
+    least-requires
     loop-holds
     sub-loop
     add-next

@@ -2,7 +2,7 @@ use mathlib.Core.Path.{_≡_, refl, sym, _∙_}
 use Prim.Native.Nat.{_≤_, _-_}
 use lib.ListN.{length, drop}
 use borrow.Author.Needs.{needs}
-use Rattle.block_map.specs.Rows.{greatestIn, itself}
+use Rattle.block_map.specs.contracts.Rows.{greatestIn, itself}
 use Rattle.block_map.proofs.Rows.{greatest-more, greatest-done}
 use Rattle.block_map.proofs.greatest.Statement.{statement}
 use Rattle.block_map.proofs.greatest.Tie as tie

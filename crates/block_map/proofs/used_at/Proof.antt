@@ -15,13 +15,13 @@ returns : tie.Need-returns
 unfolding usedAt
 returns c =
     let asked = c .before .before .before .before .before .args in
-    c .is-used .ensures ∙ (ap isUsed (c .before .cell .ensures) ∙ below-limit (asked .a) (asked .c .count) _ (search needs))
+    c .is-used .ensures ∙ (ap isUsed (c .before .cell .ensures) ∙ below-limit (asked .block) (asked .container .count) _ (search needs))
 
 returns-2 : tie.Need-returns-2
 unfolding usedAt
 returns-2 c =
     let asked = c .before .before .before .args in
-    past-limit (asked .a) (asked .c .count) _ (search needs)
+    past-limit (asked .block) (asked .container .count) _ (search needs)
 
 pub used-at-spec : {M : Type 1} → statement M
 used-at-spec = tie.close (tie.spec cell-requires is-used-requires returns returns-2)

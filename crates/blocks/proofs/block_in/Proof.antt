@@ -18,7 +18,7 @@ returns-2 : tie.Need-returns-2
 returns-2 c = search needs
 
 mul-start : tie.Need-mul-start
-mul-start c = let a = c .before .before .before .args in record { fits = half-product (a .n) (a .size) (omega arith) (omega arith) }
+mul-start c = let a = c .before .before .before .args in record { fits = half-product (a .address .0) (a .size) (omega arith) (omega arith) }
 
 part-of-requires : tie.Need-part-of-requires
 part-of-requires c κs = search needs

@@ -27,10 +27,10 @@ unfolding blockOf
 returns-2 c =
     let start = c .before .before .before .before in
     let image = start .args .image .now in
-    c .part-of2 .ensures ∙ part-past image 0 (length image) (start .args .n * start .args .size) (start .args .size) (omega arith) (begins-past (length image) (start .args .size) (start .args .n) (omega arith) (c .before .if2 .taken))
+    c .part-of2 .ensures ∙ part-past image 0 (length image) (start .args .block * start .args .size) (start .args .size) (omega arith) (begins-past (length image) (start .args .size) (start .args .block) (omega arith) (c .before .if2 .taken))
 
 mul-start : tie.Need-mul-start
-mul-start c = record { fits = omega (arith, begins-inside (length (c .before .before .before .args .image .now)) (c .before .before .before .args .size) (c .before .before .before .args .n) (omega arith) (omega arith)) }
+mul-start c = record { fits = omega (arith, begins-inside (length (c .before .before .before .args .image .now)) (c .before .before .before .args .size) (c .before .before .before .args .block) (omega arith) (omega arith)) }
 
 part-of-requires-3 : tie.Need-part-of-requires-3
 part-of-requires-3 c κs = search needs

@@ -38,10 +38,10 @@ use denote.Exit.{yes}
 use denote.Triple.Clauses.{ensured, lasts}
 use Rattle.blocks.specs.Blocks.{blockOf, readObject}
 use Rattle.blocks.specs.Reads.{run as outcome}
-use Rattle.blocks.specs.Answers.{seenAs}
+use Rattle.blocks.specs.contracts.Answers.{thereAs}
 use Rattle.blocks.specs.declared.Container.{Container}
 use Rattle.blocks.specs.declared.Address.{Address}
-use Rattle.blocks.specs.declared.Seen.{Seen}
+use Rattle.blocks.specs.declared.Presence.{Presence}
 use Rattle.blocks.specs.declared.Reader.{Reader}
 use Rattle.blocks.proofs.Reader as T
 use Rattle.blocks.proofs.Reader.Laws as T′
@@ -49,8 +49,8 @@ use Rattle.blocks.proofs.Container as K
 use Rattle.blocks.proofs.Container.Laws as K′
 use Rattle.blocks.proofs.Address as N
 use Rattle.blocks.proofs.Address.Laws as N′
-use Rattle.blocks.proofs.Seen as S
-use Rattle.blocks.proofs.Seen.Laws as S′
+use Rattle.blocks.proofs.Presence as S
+use Rattle.blocks.proofs.Presence.Laws as S′
 use Rattle.blocks.proofs.Lent.{Held, αᵉ, Bytes, sliceOf, OwnBytes, Over, to-over, Made, same, over-said, goes-over}
 use Rattle.blocks.proofs.Reader.over as over
 use Rattle.blocks.proofs.Reader.over.Symbol as over-def
@@ -75,8 +75,8 @@ module _ {M : Type 1} (𝓤 : URA M) (H : Heap 𝓤) (A : Atoms 𝓤) (mem : Mem
 
 module _ {M : Type 1} (𝓤 : URA M) (H : Heap 𝓤) (A : Atoms 𝓤) (W : Given 𝓤 H A) (mem : Memory → SProp 𝓤) (run : Routine → Fun 𝓤) (κ : Lft) (q : Share) (s : RefT (List ℕ)) (c : Container) (a : Address) (is-c : Is K.the-row c (K′.lowered c ∷ [])) (is-a : Is N.the-row a (N′.lowered a ∷ [])) where
   -- what the contract says of an answer, of the blocks that an image has
-  abbrev Answers : List ℕ → ℕ → Seen → Type 0
-  Answers image size t = seenAs (blockOf image size (a .0)) t ≡ outcome (blockOf image size) (readObject c a)
+  abbrev Answers : List ℕ → ℕ → Presence → Type 0
+  Answers image size t = thereAs (blockOf image size (a .0)) t ≡ outcome (blockOf image size) (readObject c a)
 
   abbrev m : ℕ
   m = c .size
@@ -103,11 +103,11 @@ module _ {M : Type 1} (𝓤 : URA M) (H : Heap 𝓤) (A : Atoms 𝓤) (W : Given
   goes-method : (r : Reader) (u : Val) → ent 𝓤 (⋆ 𝓤 H A (‵ (Held (κ, tt) .own r (u ∷ [])) ∷ (‵ (flft κ q) ⊛ ‵ ftrue) ∷ [])) (Method 𝓤 H A mem run .pre (to-method r u))
   goes-method r u = qed W (‵ (Held (κ, tt) .own r (u ∷ [])) ∷ (‵ (flft κ q) ⊛ ‵ ftrue) ∷ []) ∵ nothing ! $ owned ! N.the-row (Is N.the-row) (LL.makes N.the-type N′.the-plain 𝓤 H A) a _ is-a $ fjoin ! $ owned ! K.the-row (Is K.the-row) (LL.makes K.the-type K′.the-plain 𝓤 H A) c _ is-c $ fjoin ! $ move ! (1 ∷ 0 ∷ []) $ fjoin ! $ move ! (1 ∷ 0 ∷ []) $ join ! $ frame ! $ done !
 
-  method-said : (r : Reader) (t : Seen) → ent 𝓤 (ensured 𝓤 H A method.ended (method.clauses 𝓤 H A mem run) (κ, tt) (r, (c, (a, tt))) tt t) (fact 𝓤 (Answers (now (r .image)) (r .size) t))
+  method-said : (r : Reader) (t : Presence) → ent 𝓤 (ensured 𝓤 H A method.ended (method.clauses 𝓤 H A mem run) (κ, tt) (r, (c, (a, tt))) tt t) (fact 𝓤 (Answers (now (r .image)) (r .size) t))
   method-said r t = exE 𝓤 _ (λ ws. snd∗ 𝓤 (sem 𝓤 H A (lasts method.ended (κ, tt) (r, (c, (a, tt))) ws)) (fact 𝓤 (Answers (now (r .image)) (r .size) t)))
 
   -- what is owned at the exit: the answer, the token, and what was passed
-  exits : (t : Seen) (u : Val) → Answers (now s) m t → ent 𝓤 (⋆ 𝓤 H A (‵ (S.the-row .own t (u ∷ [])) ∷ (‵ (flft κ q) ⊛ ‵ ftrue) ∷ ‵ (OwnBytes κ s) ∷ [])) (Post u)
+  exits : (t : Presence) (u : Val) → Answers (now s) m t → ent 𝓤 (⋆ 𝓤 H A (‵ (S.the-row .own t (u ∷ [])) ∷ (‵ (flft κ q) ⊛ ‵ ftrue) ∷ ‵ (OwnBytes κ s) ∷ [])) (Post u)
   exits t u e =
       qed W (‵ (S.the-row .own t (u ∷ [])) ∷ (‵ (flft κ q) ⊛ ‵ ftrue) ∷ ‵ (OwnBytes κ s) ∷ []) ∵
       suffices ! _ (ends-at 𝓤 H A object-block.ended stayed (object-block.clauses 𝓤 H A mem run) W (((κ, tt), (q, tt), tt, (s, (c, (a, tt))), (sliceOf s ∷ [], (K′.lowered c ∷ [], (N′.lowered a ∷ [], tt)))), tt) u t (tt, (tt, (tt, tt))) (tt, (tt, (tt, tt)))) $ says ! e $
@@ -129,7 +129,7 @@ module _ {M : Type 1} (𝓤 : URA M) (H : Heap 𝓤) (A : Atoms 𝓤) (W : Given
         land ! (from ! (stop !)) (init ! 3 refl (LL.lawful (T.the-type (αᵉ κ)) (T′.the-laws (αᵉ κ)) 𝓤 H A W .typed r _ is .0)) $
         use2 W (raw (Method 𝓤 H A mem run .pre (to-method r u))) (goes-method r u) $
         calls-at ! fm (Method 𝓤 H A mem run) known-method (to-method r u) (and-then ! (load ! (from ! (stop !)) (look ! 2 refl)) (and-then ! (load ! (from ! (stop !)) (look ! 6 refl)) (and-then ! (load ! (from ! (stop !)) (look ! 4 refl)) (no-more !)))) (λ u′.
-        use1 W (later (some (λ (t : Seen). ((‵ (flft κ q) ⊛ ‵ ftrue) ⊛ ‵ (S.the-row .own t (u′ ∷ []))) ⊛ raw (ensured 𝓤 H A method.ended (method.clauses 𝓤 H A mem run) (κ, tt) (r, (c, (a, tt))) tt t)))) (id⊢ 𝓤 _) $ await ! tt $ pick ! (λ t.
+        use1 W (later (some (λ (t : Presence). ((‵ (flft κ q) ⊛ ‵ ftrue) ⊛ ‵ (S.the-row .own t (u′ ∷ []))) ⊛ raw (ensured 𝓤 H A method.ended (method.clauses 𝓤 H A mem run) (κ, tt) (r, (c, (a, tt))) tt t)))) (id⊢ 𝓤 _) $ await ! tt $ pick ! (λ t.
         split ! $ move ! (1 ∷ []) $ use1 W (raw (fact 𝓤 (Answers (now (r .image)) (r .size) t))) (method-said r t) $ heard ! (Answers (now (r .image)) (r .size) t) (λ e′. split ! $ move ! (1 ∷ []) $
         -- [the result; the token; what s owns; _4; …; _3; …; _2; …; _1; …; room for _0; …]: it is stored in _0 and returned, and the locals are given up
         peeks ! S.the-row (Is S.the-row) (shows 𝓤 H A S.the-row) t (u′ ∷ []) (λ is′.

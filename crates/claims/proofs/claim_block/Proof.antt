@@ -19,7 +19,7 @@ same-length : tie.Need-same-length
 same-length c = search needs
 
 returns : tie.Need-returns
-returns c = λ count. block-taken _ _ _ _ _ (c .before .before .before .before .before .before .before .cell .ensures) _ (c .before .before .before .before .before .before .owner .ensures) _ (c .before .before .before .before .before .takes .ensures) count (c .before .before .before .before .if1 .taken) (c .before .before .before .before .before .before .before .before .before .before .pre) _ (c .before .before .own-block .ensures)
+returns c = block-taken _ _ _ _ _ (c .before .before .before .before .before .before .before .cell .ensures) _ (c .before .before .before .before .before .before .owner .ensures) _ (c .before .before .before .before .before .takes .ensures) (c .before .before .before .before .if1 .taken) (c .before .before .before .before .before .before .before .before .before .before .pre) _ (c .before .before .own-block .ensures)
 
 add-overlap-requires : tie.Need-add-overlap-requires
 add-overlap-requires c κs = search needs
@@ -28,7 +28,7 @@ same-length-2 : tie.Need-same-length-2
 same-length-2 c = search needs
 
 returns-2 : tie.Need-returns-2
-returns-2 c = λ count _. block-overlaps _ _ _ _ _ (c .before .before .before .before .before .cell .ensures) _ (c .before .before .before .before .owner .ensures) _ (c .before .before .before .takes .ensures) count (c .before .before .if1 .left) _ _ (c .before .add-overlap .ensures)
+returns-2 c count _ = block-overlaps _ _ _ _ _ (c .before .before .before .before .before .cell .ensures) _ (c .before .before .before .before .owner .ensures) _ (c .before .before .before .takes .ensures) (c .before .before .if1 .left) _ _ (c .before .add-overlap .ensures) count
 
 pub claim-block-spec : {M : Type 1} → statement M
 claim-block-spec =

@@ -1,58 +1,80 @@
-use Rattle.claims.proofs.Laws.{Left, left-done, left-refused, left-more, left-owned, claimed-owned}
-use Rattle.claims.specs.Answers.{owned}
-use Rattle.claims.specs.Claims.{claimFrom}
-use Rattle.block_map.proofs.Laws.{kept-same}
-use native.Mathlib.Omega.{arith}
 use borrow.Author.Needs.{needs}
-use mathlib.Core.Path.{refl}
-use Prim.Native.Nat.{_-_}
+use native.Mathlib.Omega.{arith}
+use mathlib.Core.List.{List}
+use Prim.Native.Nat.{ℕ, _+_, _^_, _≤_, _<_}
+use Rattle.blocks.specs.Reads.{noBlocks}
+use Rattle.report.proofs.StepLaws.{Left, left-first, left-kept, left-on, left-refused, left-done, left-unlogged}
+use Rattle.claims.specs.contracts.Answers.{owned, blocksLeft, endOf}
+use Rattle.claims.proofs.Laws.{claim-done, taken-left}
 use Rattle.claims.proofs.claim_from.Statement.{statement}
 use Rattle.claims.proofs.claim_from.Tie as tie
 
 abbrev Inv-loop : tie.InvT-loop
-Inv-loop map₀ count kind start end overlaps₀ a₀ map overlaps a = Left count kind end map₀ (claimFrom kind (end - a₀) a₀ (owned map₀ overlaps₀)) map overlaps a
+Inv-loop map₀ kind overlaps₀ at₀ map overlaps at = (count : ℕ) → endOf at₀ ≤ count → (f : ℕ → List ℕ) → Left f count at₀ at (owned map₀ overlaps₀) (owned map overlaps) (blocksLeft kind)
 
 abbrev μ-loop : tie.MeasureT-loop
-μ-loop map₀ count kind start end overlaps₀ a₀ map overlaps a = end - a
+μ-loop map₀ kind overlaps₀ at₀ map overlaps at = at .left
 
 own-from-requires : tie.Need-own-from-requires Inv-loop μ-loop
 own-from-requires c κs = search needs
 
 loop-holds : tie.Need-loop-holds Inv-loop μ-loop
-loop-holds c = record { kept = kept-same _ _; rest = λ f. refl }
+loop-holds c count h f = left-first f _ _ _ _
 
-claim-block-requires : tie.Need-claim-block-requires Inv-loop μ-loop
-claim-block-requires c κs = search needs
+-- what is left at the loop's head is what was left at the start
+whole : (c : tie.At-loop Inv-loop μ-loop) → let a = c .before .before .before .before .before .before .args in (count : ℕ) → endOf (a .from) ≤ count → (f : ℕ → List ℕ)
+    → Left f count (a .from) (c .loop .at) (owned (a .map .now) (a .log)) (owned (c .loop .map) (c .loop .overlaps)) (blocksLeft (a .kind))
+whole c count h f =
+    let owns = c .before .before .before .own-from .ensures count h f in
+    taken-left _ _ owns (c .loop .inv count (omega (arith, h, owns .further .1)) f)
 
-enum-told : tie.Need-enum-told Inv-loop μ-loop
-enum-told c = search needs
+within : (c : tie.At-loop Inv-loop μ-loop) → c .loop .at .next + c .loop .at .left < 2 ^ 64
+within c = let a = c .before .before .before .before .before .before in omega (arith, whole c (endOf (a .args .from)) (omega arith) noBlocks .inside, a .pre .1)
 
-returns : tie.Need-returns Inv-loop μ-loop
-returns c = claimed-owned _ _ _ _ _ _ _ _ _ _ (c .before .before .before .before .before .before .before .before .before .before .own-from .ensures) (left-refused _ _ _ _ _ _ _ _ (c .before .before .before .before .before .before .before .loop .inv) (c .before .before .before .before .before .before .loop-test .taken) _ _ (c .before .before .before .before .claim-block .ensures _ (omega arith)) _ (c .enum-told .given .1)) (search needs)
+claim-next-requires : tie.Need-claim-next-requires Inv-loop μ-loop
+claim-next-requires c κs = (search needs, (search needs, within (c .before .before .before)))
+
+enum-known-step : tie.Need-enum-known-step Inv-loop μ-loop
+enum-known-step c = search needs
 
 same-length : tie.Need-same-length Inv-loop μ-loop
-same-length c = returns c .kept .long
+same-length c =
+    let head = c .before .before .before .before .before .before .before .before .before in
+    let end = endOf (head .before .before .before .before .before .before .args .from) in
+    left-kept (whole head end (omega arith) noBlocks) (c .before .before .before .before .before .claim-next .ensures end (whole head end (omega arith) noBlocks .inside) noBlocks) .long
 
-enum-told-2 : tie.Need-enum-told-2 Inv-loop μ-loop
-enum-told-2 c = search needs
+returns : tie.Need-returns Inv-loop μ-loop
+returns c count h f =
+    let here = whole (c .before .before .before .before .before .before .before .before .before) count h f in
+    left-refused here (c .before .before .before .before .before .claim-next .ensures count (omega (arith, h, here .inside)) f) _ _ (c .before .step .given .1)
 
-add-own-from : tie.Need-add-own-from Inv-loop μ-loop
-add-own-from c = search needs
+enum-known-step-2 : tie.Need-enum-known-step-2 Inv-loop μ-loop
+enum-known-step-2 c = search needs
 
 own-from-requires-2 : tie.Need-own-from-requires-2 Inv-loop μ-loop
-own-from-requires-2 c κs = search needs
+own-from-requires-2 c κs =
+    let head = c .before .before .before .before .before .before .before .before .before .before .before in
+    let end = endOf (head .loop .at) in
+    (search needs, omega (arith, c .before .before .before .before .before .before .before .claim-next .ensures end (omega arith) noBlocks .further _ (c .before .before .before .step2 .given .1) .1, within head))
 
 loop-less : tie.Need-loop-less Inv-loop μ-loop
-loop-less c = omega (arith, c .before .before .own-from2 .ensures .from, c .before .before .before .before .before .before .before .before .before .before .before .loop-test .taken)
+loop-less c =
+    let claimed = c .before .before .before .before .before .before .before .before .before .before in
+    let to = c .before .before .before .before .before .before .step2 .given .0 .0 in
+    omega (arith, c .before .before .own-from2 .ensures (endOf to) (omega arith) noBlocks .further .0, claimed .claim-next .ensures (endOf (claimed .before .before .before .before .loop .at)) (omega arith) noBlocks .further to (c .before .before .before .before .before .before .step2 .given .1) .0)
 
 loop-again : tie.Need-loop-again Inv-loop μ-loop
-loop-again c = left-owned _ _ _ _ _ _ _ _ _ _ (left-more _ _ _ _ _ _ _ _ (c .before .before .before .before .before .before .before .before .before .before .before .before .loop .inv) (c .before .before .before .before .before .before .before .before .before .before .before .loop-test .taken) _ _ (c .before .before .before .before .before .before .before .before .before .claim-block .ensures _ (omega arith)) (c .before .before .before .before .before .enum-told2 .given .1)) (c .before .before .own-from2 .ensures) (search needs)
-
-returns-2 : tie.Need-returns-2 Inv-loop μ-loop
-returns-2 c = claimed-owned _ _ _ _ _ _ _ _ _ _ (c .before .before .before .before .own-from .ensures) (left-done _ _ _ _ _ _ _ _ (c .before .loop .inv) (c .loop-test .left)) (search needs)
+loop-again c count h f =
+    let claimed = c .before .before .before .before .before .before .before .before .before .before in
+    let here = claimed .before .before .before .before .loop .inv count h f in
+    let next = left-on here (claimed .claim-next .ensures count (omega (arith, h, here .inside)) f) _ (c .before .before .before .before .before .before .step2 .given .1) in
+    left-unlogged next _ _ (c .before .before .own-from2 .ensures count (omega (arith, h, next .inside)) f)
 
 same-length-2 : tie.Need-same-length-2 Inv-loop μ-loop
-same-length-2 c = returns-2 c .kept .long
+same-length-2 c = whole (c .before .before) (endOf (c .before .before .before .before .before .before .before .before .args .from)) (omega arith) noBlocks .kept .long
+
+returns-2 : tie.Need-returns-2 Inv-loop μ-loop
+returns-2 c count h f = left-done (whole (c .before .before) count h f) (claim-done _ _ _ _ (c .if1 .left))
 
 pub claim-from-spec : {M : Type 1} → statement M
 claim-from-spec =
@@ -62,12 +84,11 @@ claim-from-spec =
     μ-loop
     own-from-requires
     loop-holds
-    claim-block-requires
-    enum-told
+    claim-next-requires
+    enum-known-step
     same-length
     returns
-    enum-told-2
-    add-own-from
+    enum-known-step-2
     own-from-requires-2
     loop-less
     loop-again

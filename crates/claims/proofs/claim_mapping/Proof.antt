@@ -1,6 +1,9 @@
-use Rattle.claims.proofs.Laws.{untouched, claimed-as, mapping-ghost, mapping-refused, mapping-given}
-use Rattle.queue.specs.Answers.{gotAs}
-use mathlib.Core.Path.{sym, ap, _∙_}
+use Rattle.claims.proofs.Laws.{mapping-ghost, mapping-claim}
+use Rattle.report.proofs.StepLaws.{stepped-is, given-then, stays-done, stays-refused}
+use Rattle.blocks.specs.Reads.{run}
+use Rattle.blocks.proofs.Laws.{then-refused}
+use Rattle.blocks.specs.contracts.Answers.{numberAs}
+use mathlib.Core.Path.{refl, sym, ap, _∙_}
 use borrow.Author.Needs.{needs}
 use Rattle.claims.proofs.claim_mapping.Statement.{statement}
 use Rattle.claims.proofs.claim_mapping.Tie as tie
@@ -24,16 +27,16 @@ claim-requires : tie.Need-claim-requires
 claim-requires c κs = search needs
 
 returns : tie.Need-returns
-returns c = let a = c .before .before .before .before .before .args in untouched _ _ _ _ (λ f. mapping-ghost f _ _ (a .node .now) (a .e) (c .enum-told .given .1))
+returns c = let a = c .before .before .before .before .before .args in λ f. stays-done _ _ _ (mapping-ghost _ _ (a .node .now) (a .place) (c .enum-told .given .1) f)
 
 returns-2 : tie.Need-returns-2
-returns-2 c = let a = c .before .before .before .before .before .before .before .before .before .before .args in untouched _ _ _ _ (λ f. mapping-refused f _ _ (a .node .now) (a .e) _ (c .before .before .before .before .before .value .given .1) _ (sym (c .before .before .before .mapped-address .ensures f) ∙ ap gotAs (c .before .got .given .1)))
+returns-2 c = let a = c .before .before .before .before .before .before .before .before .before .before .args in λ f. stays-refused _ _ _ _ (ap (run f) (mapping-claim _ _ (a .node .now) (a .place) _ (c .before .before .before .before .before .value .given .1)) ∙ then-refused f _ _ _ (sym (c .before .before .before .mapped-address .ensures f) ∙ ap numberAs (c .before .got .given .1)))
 
 same-length : tie.Need-same-length
 same-length c = search needs
 
 returns-3 : tie.Need-returns-3
-returns-3 c = let a = c .before .before .before .before .before .before .before .before .before .before .before .before .before .before .args in claimed-as _ _ _ _ _ _ (c .before .before .claim .ensures) (λ f. mapping-given f _ _ (a .node .now) (a .e) _ (c .before .before .before .before .before .before .before .before .before .value .given .1) _ (sym (c .before .before .before .before .before .before .before .mapped-address .ensures f) ∙ ap gotAs (c .before .before .before .before .before .got2 .given .1)))
+returns-3 c = let a = c .before .before .before .before .before .before .before .before .before .before .before .before .before .before .args in λ f. stepped-is (given-then (c .before .before .claim .ensures f) _ _ _ (sym (c .before .before .before .before .before .before .before .mapped-address .ensures f) ∙ ap numberAs (c .before .before .before .before .before .got2 .given .1)) refl) (sym (mapping-claim _ _ (a .node .now) (a .place) _ (c .before .before .before .before .before .before .before .before .before .value .given .1)))
 
 pub claim-mapping-spec : {M : Type 1} → statement M
 claim-mapping-spec =

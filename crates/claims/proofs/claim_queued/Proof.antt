@@ -1,8 +1,8 @@
-use Rattle.claims.proofs.Laws.{untouched, claimed-as}
+use Rattle.report.proofs.StepLaws.{given-then, stays-refused}
 use Rattle.claims.specs.Claims.{claimQueued}
-use Rattle.queue.specs.Answers.{ranAs}
-use Rattle.blocks.proofs.Laws.{then-given, then-refused}
-use mathlib.Core.Path.{sym, ap, _∙_}
+use Rattle.queue.specs.contracts.Answers.{runAs}
+use Rattle.blocks.proofs.Laws.{then-refused}
+use mathlib.Core.Path.{refl, sym, ap, _∙_}
 use borrow.Author.Needs.{needs}
 use Rattle.claims.proofs.claim_queued.Statement.{statement}
 use Rattle.claims.proofs.claim_queued.Tie as tie
@@ -21,14 +21,14 @@ claim-requires c κs = search needs
 
 returns : tie.Need-returns
 unfolding claimQueued
-returns c = untouched _ _ _ _ (λ f. then-refused f _ _ _ (sym (c .before .before .before .run-of .ensures f) ∙ ap ranAs (c .before .ran .given .1)))
+returns c = λ f. stays-refused _ _ _ _ (then-refused f _ _ _ (sym (c .before .before .before .run-of .ensures f) ∙ ap runAs (c .before .ran .given .1)))
 
 same-length : tie.Need-same-length
 same-length c = search needs
 
 returns-2 : tie.Need-returns-2
 unfolding claimQueued
-returns-2 c = claimed-as _ _ _ _ _ _ (c .before .before .claim .ensures) (λ f. then-given f _ _ _ (sym (c .before .before .before .before .before .before .before .run-of .ensures f) ∙ ap ranAs (c .before .before .before .before .before .ran2 .given .1)))
+returns-2 c = λ f. given-then (c .before .before .claim .ensures f) _ _ _ (sym (c .before .before .before .before .before .before .before .run-of .ensures f) ∙ ap runAs (c .before .before .before .before .before .ran2 .given .1)) refl
 
 pub claim-queued-spec : {M : Type 1} → statement M
 claim-queued-spec =

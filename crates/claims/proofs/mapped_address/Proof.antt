@@ -1,5 +1,5 @@
-use Rattle.claims.specs.Answers.{mappedAddress}
-use Rattle.queue.specs.Answers.{gotAs}
+use Rattle.claims.specs.Claims.{mappedAddress}
+use Rattle.blocks.specs.contracts.Answers.{numberAs}
 use Rattle.blocks.proofs.Laws.{then-given, then-refused}
 use mathlib.Core.Path.{sym, ap, _∙_}
 use borrow.Author.Needs.{needs}
@@ -14,7 +14,7 @@ enum-known-id c = search needs
 
 returns : tie.Need-returns
 unfolding mappedAddress
-returns c = λ f. sym (then-refused f _ _ _ (sym (c .before .before .before .field-in .ensures f) ∙ ap gotAs (c .before .id .given .1)))
+returns c = λ f. sym (then-refused f _ _ _ (sym (c .before .before .before .field-in .ensures f) ∙ ap numberAs (c .before .id .given .1)))
 
 enum-told : tie.Need-enum-told
 enum-told c = search needs
@@ -27,7 +27,7 @@ enum-known-xid c = search needs
 
 returns-2 : tie.Need-returns-2
 unfolding mappedAddress
-returns-2 c = λ f. sym (then-given f _ _ _ (sym (c .before .before .before .before .before .before .field-in .ensures f) ∙ ap gotAs (c .before .before .before .before .enum-told .given .1)) ∙ then-refused f _ _ _ (sym (c .before .before .before .field-in2 .ensures f) ∙ ap gotAs (c .before .xid .given .1)))
+returns-2 c = λ f. sym (then-given f _ _ _ (sym (c .before .before .before .before .before .before .field-in .ensures f) ∙ ap numberAs (c .before .before .before .before .enum-told .given .1)) ∙ then-refused f _ _ _ (sym (c .before .before .before .field-in2 .ensures f) ∙ ap numberAs (c .before .xid .given .1)))
 
 enum-told-2 : tie.Need-enum-told-2
 enum-told-2 c = search needs
@@ -37,7 +37,7 @@ field-in-requires-3 c κs = search needs
 
 returns-3 : tie.Need-returns-3
 unfolding mappedAddress
-returns-3 c = λ f. c .field-in3 .ensures f ∙ sym (then-given f _ _ _ (sym (c .before .before .before .before .before .before .field-in .ensures f) ∙ ap gotAs (c .before .before .before .before .enum-told .given .1)) ∙ then-given f _ _ _ (sym (c .before .before .before .field-in2 .ensures f) ∙ ap gotAs (c .before .enum-told2 .given .1)))
+returns-3 c = λ f. c .field-in3 .ensures f ∙ sym (then-given f _ _ _ (sym (c .before .before .before .before .before .before .field-in .ensures f) ∙ ap numberAs (c .before .before .before .before .enum-told .given .1)) ∙ then-given f _ _ _ (sym (c .before .before .before .field-in2 .ensures f) ∙ ap numberAs (c .before .enum-told2 .given .1)))
 
 pub mapped-address-spec : {M : Type 1} → statement M
 mapped-address-spec =

@@ -1,20 +1,23 @@
-use native.Mathlib.Omega.{arith}
-use borrow.Author.Tests.{not-false}
 use borrow.Author.Needs.{needs}
-use Prim.Native.Nat.{_-_}
-use Rattle.claims.specs.Answers.{OwnedTo}
-use Rattle.claims.proofs.Laws.{owned-start, owned-more}
+use mathlib.Core.Path.{refl}
+use Rattle.blocks.specs.Reads.{noBlocks}
+use native.Mathlib.Omega.{arith}
+use Prim.Native.Nat.{_+_, _-_, _≤_}
+use Rattle.claims.proofs.Laws.{Taken, taken-first, taken-next, block-taken}
 use Rattle.claims.proofs.own_from.Statement.{statement}
 use Rattle.claims.proofs.own_from.Tie as tie
 
 abbrev Inv-loop : tie.InvT-loop
-Inv-loop map₀ kind start end a₀ map a = OwnedTo kind start end a map₀ map
+Inv-loop map₀ kind end next₀ map next = (next ≤ end) × Taken kind next₀ end next map₀ map
 
 abbrev μ-loop : tie.MeasureT-loop
-μ-loop map₀ kind start end a₀ map a = end - a
+μ-loop map₀ kind end next₀ map next = end - next
+
+add-end : tie.Need-add-end Inv-loop μ-loop
+add-end c = search needs
 
 loop-holds : tie.Need-loop-holds Inv-loop μ-loop
-loop-holds c = owned-start _ _ _ _
+loop-holds c = (omega arith, taken-first _ _ _ _)
 
 cell-requires : tie.Need-cell-requires Inv-loop μ-loop
 cell-requires c κs = search needs
@@ -25,29 +28,30 @@ owner-requires c κs = search needs
 takes-requires : tie.Need-takes-requires Inv-loop μ-loop
 takes-requires c κs = search needs
 
-same-length : tie.Need-same-length Inv-loop μ-loop
-same-length c = c .before .before .before .before .before .before .loop .inv .kept (c .before .before .before .before .before .before .before .before .args .end) (omega arith) .long
-
-returns : tie.Need-returns Inv-loop μ-loop
-returns c = c .before .before .before .before .before .before .loop .inv
-
 own-block-requires : tie.Need-own-block-requires Inv-loop μ-loop
 own-block-requires c κs = search needs
 
-add-a : tie.Need-add-a Inv-loop μ-loop
-add-a c = search needs
+add-next : tie.Need-add-next Inv-loop μ-loop
+add-next c = search needs
 
 loop-less : tie.Need-loop-less Inv-loop μ-loop
 loop-less c = search needs
 
 loop-again : tie.Need-loop-again Inv-loop μ-loop
-loop-again c = owned-more _ _ _ _ _ _ (c .before .before .before .before .before .before .before .before .before .before .loop .inv) (c .before .before .before .before .before .before .before .before .before .loop-test .taken) (c .before .before .before .before .before .before .before .before .before .before .before .before .pre) _ (c .before .before .before .before .before .before .before .cell .ensures) _ (c .before .before .before .before .before .before .owner .ensures) _ (c .before .before .before .before .before .takes .ensures) (not-false _ (c .before .before .before .before .if1 .left)) _ (c .before .before .own-block .ensures)
+loop-again c =
+    let held = c .before .before .before .before .before in
+    let test = held .before .before .before .before in
+    let inv = test .before .loop .inv in
+    (omega arith, taken-next _ _ _ _ _ _ _ (inv .1) (test .loop-test .taken) (λ count k log. block-taken _ _ _ log _ (held .before .before .cell .ensures) _ (held .before .owner .ensures) _ (held .takes .ensures) (c .before .before .before .before .if1 .taken) (test .before .before .before .before .pre .0) _ (c .before .before .own-block .ensures) count k))
 
-same-length-2 : tie.Need-same-length-2 Inv-loop μ-loop
-same-length-2 c = c .before .loop .inv .kept (c .before .before .before .args .end) (omega arith) .long
+sub-t15 : tie.Need-sub-t15 Inv-loop μ-loop
+sub-t15 c = search needs
 
-returns-2 : tie.Need-returns-2 Inv-loop μ-loop
-returns-2 c = c .before .loop .inv
+same-length : tie.Need-same-length Inv-loop μ-loop
+same-length c = let at = c .before .before .before .before .args .from in c .before .loop .inv .1 (at .left) refl (at .next + at .left) (omega arith) noBlocks .kept .long
+
+returns : tie.Need-returns Inv-loop μ-loop
+returns c = c .before .loop .inv .1 _ refl
 
 pub own-from-spec : {M : Type 1} → statement M
 own-from-spec =
@@ -55,15 +59,15 @@ own-from-spec =
     (tie.spec
     Inv-loop
     μ-loop
+    add-end
     loop-holds
     cell-requires
     owner-requires
     takes-requires
-    same-length
-    returns
     own-block-requires
-    add-a
+    add-next
     loop-less
     loop-again
-    same-length-2
-    returns-2)
+    sub-t15
+    same-length
+    returns)

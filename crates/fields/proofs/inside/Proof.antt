@@ -1,5 +1,5 @@
 use Rattle.fields.proofs.Laws.{num-none, above-fits, byte-above}
-use Rattle.fields.specs.Fields.{Number}
+use Rattle.fields.specs.contracts.Numbers.{NumberAt}
 use borrow.Author.Needs.{needs}
 use native.Mathlib.Omega.{arith}
 use Prim.Native.Nat.{_-_, _≤_}
@@ -8,7 +8,7 @@ use Rattle.fields.proofs.inside.Statement.{statement}
 use Rattle.fields.proofs.inside.Tie as tie
 
 abbrev Inv-loop : tie.InvT-loop
-Inv-loop s at w v₀ k₀ v k = (k ≤ w) × Number k s at v
+Inv-loop s at w v₀ k₀ v k = (k ≤ w) × NumberAt k s at v
 
 abbrev μ-loop : tie.MeasureT-loop
 μ-loop s at w v₀ k₀ v k = w - k
@@ -34,7 +34,7 @@ shl-v c = search needs
 add-v : tie.Need-add-v Inv-loop μ-loop
 add-v c =
     let l = c .before .before .before in
-    record { fits = above-fits (l .before .before .args .s .now) (l .before .before .args .at) (l .loop .k) (l .loop .v) (c .wide .result) (omega arith) (l .loop .inv .1) (c .wide .ensures .0) (c .wide .ensures .1) }
+    record { fits = above-fits (l .before .before .args .bytes .now) (l .before .before .args .at) (l .loop .k) (l .loop .v) (c .wide .result) (omega arith) (l .loop .inv .1) (c .wide .ensures .0) (c .wide .ensures .1) }
 
 add-k : tie.Need-add-k Inv-loop μ-loop
 add-k c = search needs
@@ -45,11 +45,11 @@ loop-less c = search needs
 loop-again : tie.Need-loop-again Inv-loop μ-loop
 loop-again c =
     let l = c .before .before .before in
-    (search needs, byte-above (l .before .before .args .s .now) (l .before .before .args .at) (l .loop .k) (l .loop .v) (c .wide .result) (omega arith) (l .loop .inv .1) (c .wide .ensures .0) (c .wide .ensures .1))
+    (search needs, byte-above (l .before .before .args .bytes .now) (l .before .before .args .at) (l .loop .k) (l .loop .v) (c .wide .result) (omega arith) (l .loop .inv .1) (c .wide .ensures .0) (c .wide .ensures .1))
 
 returns : tie.Need-returns Inv-loop μ-loop
 returns c =
-    let e : c .before .loop .k ≡ c .before .before .before .args .w = omega arith in
+    let e : c .before .loop .k ≡ c .before .before .before .args .width = omega arith in
     rw (← e) (c .before .loop .inv .1)
 
 pub inside-spec : {M : Type 1} → statement M

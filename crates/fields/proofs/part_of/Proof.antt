@@ -18,7 +18,7 @@ part-result-end c = search needs
 
 returns : tie.Need-returns
 returns c =
-    let s = c .before .before .args .s .now in
+    let s = c .before .before .args .bytes .now in
     part-past s (length s - length s) (length s) (c .before .before .args .start) (c .before .before .args .len) (omega arith) (omega arith)
 
 sub-if2 : tie.Need-sub-if2
@@ -35,7 +35,7 @@ part-result-end-2 c = search needs
 
 returns-2 : tie.Need-returns-2
 returns-2 c =
-    let s = c .before .before .before .args .s .now in
+    let s = c .before .before .before .args .bytes .now in
     let start = c .before .before .before .args .start in
     part-rest s start (length s - start) (c .before .before .before .args .len) (omega arith) (omega arith)
 

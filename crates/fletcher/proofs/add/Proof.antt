@@ -5,7 +5,7 @@ use mathlib.Core.List.{[]}
 use Prim.Native.Nat.{_+_, _-_, _%_, _≤_}
 use lib.ListN.{length, drop, length-take, length-drop}
 use Rattle.fletcher.specs.declared.Sums.{Sums}
-use Rattle.fletcher.specs.Pieces.{Added, Reduced}
+use Rattle.fletcher.specs.contracts.Pieces.{Added, Reduced}
 use Rattle.fletcher.proofs.Laws.{added-then, added-part, part-end}
 use Rattle.fletcher.proofs.add.Statement.{statement}
 use Rattle.fletcher.proofs.add.Tie as tie

@@ -1,6 +1,6 @@
 use mathlib.Core.Path.{ap}
 use Prim.Native.Nat.{ℕ}
-use Rattle.fletcher.specs.Pieces.{plusWord}
+use Rattle.fletcher.specs.contracts.Pieces.{plusWord}
 use borrow.Author.Needs.{needs}
 use Rattle.fletcher.proofs.plus.Statement.{statement}
 use Rattle.fletcher.proofs.plus.Tie as tie

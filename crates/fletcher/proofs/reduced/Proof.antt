@@ -1,5 +1,5 @@
 use Rattle.fletcher.proofs.Laws.{fletcher-reduced}
-use Rattle.fletcher.specs.Pieces.{words}
+use Rattle.fletcher.specs.contracts.Pieces.{words}
 use borrow.Author.Needs.{needs}
 use Rattle.fletcher.proofs.reduced.Statement.{statement}
 use Rattle.fletcher.proofs.reduced.Tie as tie

@@ -1,5 +1,5 @@
 use mathlib.Core.List.{[]}
-use Rattle.fletcher.specs.Pieces.{words}
+use Rattle.fletcher.specs.contracts.Pieces.{words}
 use Rattle.fletcher.specs.Fletcher.{seal, fletcher}
 use borrow.Author.Needs.{needs}
 use Rattle.fletcher.proofs.seal.Statement.{statement}

@@ -21,7 +21,7 @@ enum-known-seen : tie.Need-enum-known-seen Inv-loop μ-loop
 enum-known-seen c = search needs
 
 returns : tie.Need-returns Inv-loop μ-loop
-returns c = left-refused _ _ (c .before .before .before .before .before .before .before .args .p) _ _ (c .before .before .before .before .loop-test .taken) (c .before .before .before .before .before .loop .inv .1) _ (c .before .before .before .bitmap-there .ensures) _ (c .before .seen .given .1)
+returns c = left-refused _ _ (c .before .before .before .before .before .before .before .args .pool) _ _ (c .before .before .before .before .loop-test .taken) (c .before .before .before .before .before .loop .inv .1) _ (c .before .before .before .bitmap-there .ensures) _ (c .before .seen .given .1)
 
 enum-told : tie.Need-enum-told Inv-loop μ-loop
 enum-told c = search needs
@@ -33,10 +33,10 @@ loop-less : tie.Need-loop-less Inv-loop μ-loop
 loop-less c = search needs
 
 loop-again : tie.Need-loop-again Inv-loop μ-loop
-loop-again c = (search needs, left-more _ _ (c .before .before .before .before .before .before .args .p) _ _ (c .before .before .before .loop-test .taken) (c .before .before .before .before .loop .inv .1) _ (c .before .before .bitmap-there .ensures) (c .enum-told .given .1))
+loop-again c = (search needs, left-more _ _ (c .before .before .before .before .before .before .args .pool) _ _ (c .before .before .before .loop-test .taken) (c .before .before .before .before .loop .inv .1) _ (c .before .before .bitmap-there .ensures) (c .enum-told .given .1))
 
 returns-2 : tie.Need-returns-2 Inv-loop μ-loop
-returns-2 c = left-done _ _ (c .before .before .before .args .p) _ _ (c .before .loop .inv .0) (c .loop-test .left) (c .before .loop .inv .1)
+returns-2 c = left-done _ _ (c .before .before .before .args .pool) _ _ (c .before .loop .inv .0) (c .loop-test .left) (c .before .loop .inv .1)
 
 pub bitmaps-there-spec : {M : Type 1} → statement M
 bitmaps-there-spec =

@@ -19,10 +19,10 @@ returns : tie.Need-returns
 returns c = from-refused _ _ _ _ (c .before .before .before .bitmaps-there .ensures) _ (c .before .seen .given .1)
 
 returns-2 : tie.Need-returns-2
-returns-2 c = from-given _ _ (c .before .before .before .before .before .before .args .p) _ (c .before .before .before .before .bitmaps-there .ensures) (c .before .before .before .before .before .before .pre) (c .before .before .enum-told .given .1) _ (c .before .has-bits .ensures) (c .if1 .taken)
+returns-2 c = from-given _ _ (c .before .before .before .before .before .before .args .pool) _ (c .before .before .before .before .bitmaps-there .ensures) (c .before .before .before .before .before .before .pre) (c .before .before .enum-told .given .1) _ (c .before .has-bits .ensures) (c .if1 .taken)
 
 returns-3 : tie.Need-returns-3
-returns-3 c = from-short _ _ (c .before .before .before .before .before .before .args .p) _ (c .before .before .before .before .bitmaps-there .ensures) (c .before .before .before .before .before .before .pre) (c .before .before .enum-told .given .1) _ (c .before .has-bits .ensures) (c .if1 .left)
+returns-3 c = from-short _ _ (c .before .before .before .before .before .before .args .pool) _ (c .before .before .before .before .bitmaps-there .ensures) (c .before .before .before .before .before .before .pre) (c .before .before .enum-told .given .1) _ (c .before .has-bits .ensures) (c .if1 .left)
 
 pub load-at-spec : {M : Type 1} → statement M
 load-at-spec =

@@ -13,11 +13,11 @@ bit-near-requires c κs = search needs
 
 returns : tie.Need-returns
 unfolding poolMarked
-returns c = rw (← c .before .before .before .pool-index .ensures) (c .bit-near .ensures ∙ below-limit (c .before .before .before .pool-index .result) (c .before .before .before .before .before .before .args .p .blocks) _ (search needs))
+returns c = rw (← c .before .before .before .pool-index .ensures) (c .bit-near .ensures ∙ below-limit (c .before .before .before .pool-index .result) (c .before .before .before .before .before .before .args .pool .blocks) _ (search needs))
 
 returns-2 : tie.Need-returns-2
 unfolding poolMarked
-returns-2 c = rw (← c .before .before .pool-index .ensures) (past-limit (c .before .before .pool-index .result) (c .before .before .before .before .before .args .p .blocks) _ (search needs))
+returns-2 c = rw (← c .before .before .pool-index .ensures) (past-limit (c .before .before .pool-index .result) (c .before .before .before .before .before .args .pool .blocks) _ (search needs))
 
 pub marked-near-spec : {M : Type 1} → statement M
 marked-near-spec = tie.close (tie.spec pool-index-requires bit-near-requires returns returns-2)

@@ -1,6 +1,5 @@
 use Rattle.pool.proofs.Laws.{none-part}
 use borrow.Author.Needs.{needs}
-use borrow.Author.Needs.{needs}
 use Rattle.pool.proofs.pool_marked.Statement.{statement}
 use Rattle.pool.proofs.pool_marked.Tie as tie
 

@@ -1,6 +1,6 @@
 use borrow.Author.Needs.{needs}
 use Rattle.pool.proofs.Laws.{Counted, counted-few, counted-span, counted-done}
-use Rattle.pool.specs.Place.{poolIn}
+use Rattle.pool.specs.contracts.Place.{poolIn}
 use Rattle.blocks.specs.Blocks.{blockOf}
 use mathlib.Core.Path.{refl, _∙_}
 use native.Mathlib.Nat.{sub-zero, add-zero}

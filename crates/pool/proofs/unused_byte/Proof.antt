@@ -1,6 +1,6 @@
 use borrow.Author.Needs.{needs}
 use Rattle.pool.proofs.Laws.{Counted, counted-more, counted-done, count-none, bit-read-of}
-use Rattle.pool.specs.Place.{poolIn}
+use Rattle.pool.specs.contracts.Place.{poolIn}
 use Rattle.blocks.specs.Blocks.{blockOf}
 use native.Mathlib.Omega.{arith}
 use mathlib.Core.Path.{refl, sym, _∙_}

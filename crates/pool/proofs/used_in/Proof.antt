@@ -13,7 +13,7 @@ returns : tie.Need-returns
 unfolding usedAt
 returns c =
     let a = c .before .before .args in
-    past-limit (a .base + a .i) (a .container .count) _ (omega arith)
+    past-limit (a .base + a .index) (a .container .count) _ (omega arith)
 
 add-used-at : tie.Need-add-used-at
 add-used-at c = search needs

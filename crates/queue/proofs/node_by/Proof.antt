@@ -13,16 +13,16 @@ enum-told c = search needs
 enum-known-mapped : tie.Need-enum-known-mapped
 enum-known-mapped c = search needs
 
-child-at-requires : tie.Need-child-at-requires
-child-at-requires c κs = search needs
+node-at-requires : tie.Need-node-at-requires
+node-at-requires c κs = search needs
 
 returns : tie.Need-returns
 returns c = sym (unmapped _ _ _ (sym (c .before .before .lookup .ensures) ∙ c .enum-told .given .1))
 
 returns-2 : tie.Need-returns-2
-returns-2 c = c .child-at .ensures ∙ sym (mapped _ _ _ _ (sym (c .before .before .before .before .before .lookup .ensures) ∙ c .before .before .before .mapped .given .1))
+returns-2 c = c .node-at .ensures ∙ sym (mapped _ _ _ _ (sym (c .before .before .before .before .before .lookup .ensures) ∙ c .before .before .before .mapped .given .1))
 
 pub node-by-spec : {M : Type 1} → statement M
 node-by-spec =
     tie.close
-    (tie.spec lookup-requires enum-told enum-known-mapped child-at-requires returns returns-2)
+    (tie.spec lookup-requires enum-told enum-known-mapped node-at-requires returns returns-2)

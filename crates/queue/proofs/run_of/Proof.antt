@@ -1,5 +1,5 @@
 use Rattle.queue.proofs.Laws.{run-no-start, run-no-count, run-given}
-use Rattle.queue.specs.Answers.{gotAs}
+use Rattle.blocks.specs.contracts.Answers.{numberAs}
 use mathlib.Core.Path.{sym, ap, _∙_}
 use borrow.Author.Needs.{needs}
 use Rattle.queue.proofs.run_of.Statement.{statement}
@@ -24,13 +24,13 @@ enum-known-counted-2 : tie.Need-enum-known-counted-2
 enum-known-counted-2 c = search needs
 
 returns : tie.Need-returns
-returns c = λ f. sym (run-no-start f _ _ (sym (c .before .before .before .field-in .ensures f) ∙ ap gotAs (c .before .address .given .1)))
+returns c = λ f. sym (run-no-start f _ _ (sym (c .before .before .before .field-in .ensures f) ∙ ap numberAs (c .before .address .given .1)))
 
 returns-2 : tie.Need-returns-2
-returns-2 c = λ f. sym (run-no-count f _ _ (sym (c .before .before .before .before .before .before .before .field-in .ensures f) ∙ ap gotAs (c .before .before .before .before .before .address2 .given .1)) _ (sym (c .before .before .before .run-count .ensures f) ∙ ap gotAs (c .before .counted .given .1)))
+returns-2 c = λ f. sym (run-no-count f _ _ (sym (c .before .before .before .before .before .before .before .field-in .ensures f) ∙ ap numberAs (c .before .before .before .before .before .address2 .given .1)) _ (sym (c .before .before .before .run-count .ensures f) ∙ ap numberAs (c .before .counted .given .1)))
 
 returns-3 : tie.Need-returns-3
-returns-3 c = λ f. sym (run-given f _ _ (sym (c .before .before .before .before .before .before .before .field-in .ensures f) ∙ ap gotAs (c .before .before .before .before .before .address2 .given .1)) _ (sym (c .before .before .before .run-count .ensures f) ∙ ap gotAs (c .before .counted2 .given .1)))
+returns-3 c = λ f. sym (run-given f _ _ (sym (c .before .before .before .before .before .before .before .field-in .ensures f) ∙ ap numberAs (c .before .before .before .before .before .address2 .given .1)) _ (sym (c .before .before .before .run-count .ensures f) ∙ ap numberAs (c .before .counted2 .given .1)))
 
 pub run-of-spec : {M : Type 1} → statement M
 run-of-spec =

@@ -1,6 +1,6 @@
 use mathlib.Core.Path.{ap, _∙_}
 use borrow.Author.Needs.{needs}
-use Rattle.totals.specs.Counting.{totalsOf}
+use Rattle.totals.specs.contracts.Counting.{totalsOf}
 use Rattle.totals.proofs.count_blocks.Statement.{statement}
 use Rattle.totals.proofs.count_blocks.Tie as tie
 

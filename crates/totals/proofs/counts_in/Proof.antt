@@ -3,9 +3,9 @@ use Prim.Native.Nat.{_≤_, _-_}
 use lib.ListN.{length, drop}
 use borrow.Author.Needs.{needs}
 use Rattle.block_map.specs.BlockMap.{isUsed, countIn}
-use Rattle.block_map.specs.Rows.{greatestIn}
+use Rattle.block_map.specs.contracts.Rows.{greatestIn}
 use Rattle.block_map.proofs.Rows.{greatest-more, greatest-done}
-use Rattle.totals.specs.Counting.{lostKind}
+use Rattle.totals.specs.contracts.Counting.{lostKind}
 use Rattle.totals.specs.Totals.{isLeaked}
 use Rattle.totals.proofs.Laws.{counted-fits, count-more, count-done}
 use Rattle.totals.proofs.counts_in.Statement.{statement}

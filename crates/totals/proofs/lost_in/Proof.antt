@@ -6,7 +6,7 @@ use native.Mathlib.Omega.{arith}
 use lib.ListN.{length, drop}
 use borrow.Author.Needs.{needs}
 use Rattle.report.specs.Report.{kinds}
-use Rattle.totals.specs.Counting.{firstKind, lostAfter}
+use Rattle.totals.specs.contracts.Counting.{firstKind, lostAfter}
 use Rattle.totals.proofs.Laws.{lost-room, after-done, Walked, walked-skip, walked-add, walked-past}
 use Rattle.totals.proofs.lost_in.Statement.{statement}
 use Rattle.totals.proofs.lost_in.Tie as tie

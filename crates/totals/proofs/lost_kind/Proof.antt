@@ -1,6 +1,6 @@
 use mathlib.Core.Path.{sym, _∙_}
 use borrow.Author.Needs.{needs}
-use Rattle.totals.specs.Counting.{lostKind}
+use Rattle.totals.specs.contracts.Counting.{lostKind}
 use Rattle.totals.proofs.lost_kind.Statement.{statement}
 use Rattle.totals.proofs.lost_kind.Tie as tie
 

@@ -7,7 +7,7 @@ use borrow.Author.Needs.{needs}
 use Rattle.report.specs.Report.{kinds}
 use Rattle.report.specs.declared.Lost.{Lost}
 use Rattle.block_map.specs.BlockMap.{isUsed, countIn}
-use Rattle.totals.specs.Counting.{firstKind, lostAfter}
+use Rattle.totals.specs.contracts.Counting.{firstKind, lostAfter}
 use Rattle.totals.specs.declared.Counts.{Counts}
 use Rattle.totals.specs.Totals.{isLeaked, lostFrom}
 use Rattle.totals.proofs.Laws.{count-fits, count-row, count-done, lost-fits, length-part, after-start, after-row, after-quiet, after-done}

@@ -10,11 +10,14 @@ whole-bytes-requires c κs = search needs
 mark-bytes-requires : tie.Need-mark-bytes-requires
 mark-bytes-requires c κs = search needs
 
-mul-mark-rest : tie.Need-mul-mark-rest
-mul-mark-rest c = search needs
+mul-next : tie.Need-mul-next
+mul-next c = search needs
+
+sub-left : tie.Need-sub-left
+sub-left c = search needs
 
 mark-rest-requires : tie.Need-mark-rest-requires
-mark-rest-requires c κs = (whole-few _ _ _ _ _ _ (c .before .before .before .mark-bytes .ensures), search needs)
+mark-rest-requires c κs = (search needs, omega (arith, whole-few _ _ _ _ _ _ (c .before .before .before .mark-bytes .ensures)))
 
 same-length : tie.Need-same-length
 same-length c = search needs
@@ -28,7 +31,8 @@ mark-bits-spec =
     (tie.spec
     whole-bytes-requires
     mark-bytes-requires
-    mul-mark-rest
+    mul-next
+    sub-left
     mark-rest-requires
     same-length
     returns)

@@ -1,59 +1,58 @@
-use Rattle.audit.proofs.BitmapLaws.{bits-done, bits-clear, bits-set}
-use Rattle.audit.proofs.Laws.{Reached, reached-first, reached-done, reached-next, reached-more, reached-stop}
-use Rattle.audit.specs.Audit.{markFrom}
-use mathlib.Core.Path.{refl, sym, _∙_}
-use mathlib.Core.Logic.{⊎-elim}
-use mathlib.Core.List.{List, []}
-use Prim.Native.Nat.{ℕ, _-_, _≤_}
-use native.Mathlib.Omega.{arith}
 use borrow.Author.Needs.{needs}
+use native.Mathlib.Omega.{arith}
+use mathlib.Core.List.{List}
+use Prim.Native.Nat.{ℕ, _+_, _≤_}
+use Rattle.blocks.specs.Reads.{noBlocks}
+use Rattle.report.proofs.StepLaws.{Left, left-first, left-on, left-refused, left-done}
+use Rattle.audit.specs.Audit.{markFrom}
+use Rattle.audit.proofs.BitmapLaws.{bits-done}
 use Rattle.audit.proofs.bitmap.mark_rest.Statement.{statement}
 use Rattle.audit.proofs.bitmap.mark_rest.Tie as tie
 
 abbrev Inv-loop : tie.InvT-loop
-Inv-loop map₀ container bits start blocks first counted zeros₀ i₀ map zeros i = (zeros ≤ i) × (i ≤ blocks) × ((f : ℕ → List ℕ) → Reached f (container .count) map₀ map (markFrom container bits start (blocks - i) i (record { map = map; figures = zeros })) (markFrom container bits start (blocks - first) first (record { map = map₀; figures = counted })))
+Inv-loop map₀ container bits start before zeros₀ at₀ map zeros at =
+    ((f : ℕ → List ℕ) → Left f (container .count) at₀ at (record { map = map₀; figures = before }) (record { map = map; figures = zeros }) (λ to. markFrom container bits start (to .left) (to .next)))
+    × (zeros + at .left ≤ before + at₀ .left)
 
 abbrev μ-loop : tie.MeasureT-loop
-μ-loop map₀ container bits start blocks first counted zeros₀ i₀ map zeros i = blocks - i
+μ-loop map₀ container bits start before zeros₀ at₀ map zeros at = at .left
 
 loop-holds : tie.Need-loop-holds Inv-loop μ-loop
-loop-holds c = (search needs, search needs, λ f. reached-first f _ _ _ _ refl)
+loop-holds c = (λ f. left-first f _ _ _ _, search needs)
 
-bit-at-requires : tie.Need-bit-at-requires Inv-loop μ-loop
-bit-at-requires c κs = search needs
+mark-next-requires : tie.Need-mark-next-requires Inv-loop μ-loop
+mark-next-requires c κs =
+    let inv = c .before .before .before .loop .inv in
+    let pre = c .before .before .before .before .before .before .pre in
+    ((search needs, omega (arith, inv .0 noBlocks .inside, pre .0)), omega (arith, inv .1, pre .1))
 
-mark-set-requires : tie.Need-mark-set-requires Inv-loop μ-loop
-mark-set-requires c κs = search needs
-
-enum-told : tie.Need-enum-told Inv-loop μ-loop
-enum-told c = search needs
-
-returns : tie.Need-returns Inv-loop μ-loop
-returns c = λ f. reached-stop (c .before .before .before .before .before .before .before .before .before .loop .inv .2 f) (c .before .before .before .before .mark-set .ensures f _) _ (bits-set _ _ _ _ _ _ (c .before .before .before .before .before .before .before .before .loop-test .taken) (sym (c .before .before .before .before .before .before .before .bit-at .ensures) ∙ c .before .before .before .before .before .before .if1 .taken)) _ _ (c .enum-told .given .1)
+enum-known-step : tie.Need-enum-known-step Inv-loop μ-loop
+enum-known-step c = search needs
 
 same-length : tie.Need-same-length Inv-loop μ-loop
-same-length c = returns c (λ _. []) .kept .long
+same-length c = search (needs, c .before .before .before .before .before .mark-next .ensures .0 noBlocks .kept .long, c .before .before .before .before .before .before .before .before .before .loop .inv .0 noBlocks .kept .long)
 
-enum-told-2 : tie.Need-enum-told-2 Inv-loop μ-loop
-enum-told-2 c = search needs
+returns : tie.Need-returns Inv-loop μ-loop
+returns c = λ f. left-refused (c .before .before .before .before .before .before .before .before .before .loop .inv .0 f) (c .before .before .before .before .before .mark-next .ensures .0 f) _ _ (c .before .step .given .1)
 
-add-zeros : tie.Need-add-zeros Inv-loop μ-loop
-add-zeros c = search needs
-
-add-i : tie.Need-add-i Inv-loop μ-loop
-add-i c = search needs
+enum-known-step-2 : tie.Need-enum-known-step-2 Inv-loop μ-loop
+enum-known-step-2 c = search needs
 
 loop-less : tie.Need-loop-less Inv-loop μ-loop
-loop-less c = search needs
+loop-less c = c .before .before .before .before .before .mark-next .ensures .0 noBlocks .further _ (c .before .step2 .given .1) .0
 
 loop-again : tie.Need-loop-again Inv-loop μ-loop
-loop-again c = (⊎-elim (λ w. omega (arith, w .8)) (λ w. omega (arith, w .2)) (c .if1 .came), search needs, λ f. ⊎-elim (λ w. rw (w .7, w .8) (reached-more (c .before .before .before .loop .inv .2 f) (w .2 .ensures f _) _ (bits-set _ _ _ _ _ _ (c .before .before .loop-test .taken) (sym (c .before .bit-at .ensures) ∙ w .0 .taken)) (w .6 .given .1))) (λ w. rw (w .1, w .2) (reached-next (c .before .before .before .loop .inv .2 f) (bits-clear _ _ _ _ _ _ (c .before .before .loop-test .taken) (sym (c .before .bit-at .ensures) ∙ w .0 .left)))) (c .if1 .came))
+loop-again c =
+    let inv = c .before .before .before .before .before .before .before .before .before .loop .inv in
+    let marked = c .before .before .before .before .before .mark-next .ensures in
+    let on = c .before .step2 .given .1 in
+    (λ f. left-on (inv .0 f) (marked .0 f) _ on, omega (arith, inv .1, marked .1, marked .0 noBlocks .further _ on .0))
 
 same-length-2 : tie.Need-same-length-2 Inv-loop μ-loop
-same-length-2 c = c .before .loop .inv .2 (λ _. []) .kept .long
+same-length-2 c = search (needs, c .before .before .loop .inv .0 noBlocks .kept .long)
 
 returns-2 : tie.Need-returns-2 Inv-loop μ-loop
-returns-2 c = λ f. reached-done (c .before .loop .inv .2 f) _ (bits-done _ _ _ _ _ _ (c .loop-test .left))
+returns-2 c = λ f. left-done (c .before .before .loop .inv .0 f) (bits-done _ _ _ _ _ _ (c .if1 .left))
 
 pub mark-rest-spec : {M : Type 1} → statement M
 mark-rest-spec =
@@ -62,14 +61,11 @@ mark-rest-spec =
     Inv-loop
     μ-loop
     loop-holds
-    bit-at-requires
-    mark-set-requires
-    enum-told
+    mark-next-requires
+    enum-known-step
     same-length
     returns
-    enum-told-2
-    add-zeros
-    add-i
+    enum-known-step-2
     loop-less
     loop-again
     same-length-2

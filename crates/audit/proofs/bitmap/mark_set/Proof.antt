@@ -1,5 +1,5 @@
 use Rattle.audit.proofs.BitmapLaws.{set-refused, set-past, set-marked}
-use Rattle.blocks.specs.Answers.{addedAs}
+use Rattle.blocks.specs.contracts.Answers.{numberAs}
 use mathlib.Core.Path.{sym, ap, _∙_}
 use borrow.Author.Needs.{needs}
 use Rattle.audit.proofs.bitmap.mark_set.Statement.{statement}
@@ -15,19 +15,19 @@ enum-known-sum-2 : tie.Need-enum-known-sum-2
 enum-known-sum-2 c = search needs
 
 returns : tie.Need-returns
-returns c = λ f zeros. set-past f _ _ _ _ zeros _ (sym (c .before .before .before .before .before .add .ensures f) ∙ ap addedAs (c .before .before .before .sum2 .given .1)) (c .if1 .taken)
+returns c = λ f zeros. set-past f _ _ _ _ zeros _ (sym (c .before .before .before .before .before .add .ensures f) ∙ ap numberAs (c .before .before .before .sum2 .given .1)) (c .if1 .taken)
 
 mark-block-requires : tie.Need-mark-block-requires
 mark-block-requires c κs = search needs
 
 returns-2 : tie.Need-returns-2
-returns-2 c = λ f zeros. set-refused f _ _ _ _ zeros _ (sym (c .before .before .before .add .ensures f) ∙ ap addedAs (c .before .sum .given .1))
+returns-2 c = λ f zeros. set-refused f _ _ _ _ zeros _ (sym (c .before .before .before .add .ensures f) ∙ ap numberAs (c .before .sum .given .1))
 
 same-length : tie.Need-same-length
 same-length c = search needs
 
 returns-3 : tie.Need-returns-3
-returns-3 c = λ f zeros. set-marked f _ _ _ _ zeros _ (sym (c .before .before .before .before .before .before .before .before .before .add .ensures f) ∙ ap addedAs (c .before .before .before .before .before .before .before .sum2 .given .1)) _ (c .before .before .before .before .if1 .left) (c .before .before .mark-block .ensures)
+returns-3 c = λ f zeros. set-marked f _ _ _ _ zeros _ (sym (c .before .before .before .before .before .before .before .before .before .add .ensures f) ∙ ap numberAs (c .before .before .before .before .before .before .before .sum2 .given .1)) _ (c .before .before .before .before .if1 .left) (c .before .before .mark-block .ensures)
 
 pub mark-set-spec : {M : Type 1} → statement M
 mark-set-spec =

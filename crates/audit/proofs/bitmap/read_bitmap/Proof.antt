@@ -1,9 +1,9 @@
 use Rattle.blocks.specs.Reads.{given}
 use Rattle.audit.proofs.BitmapLaws.{bitmap-short, bitmap-there}
 use Rattle.audit.proofs.Laws.{answer-refused}
-use Rattle.audit.specs.Answers.{bitmapRead}
+use Rattle.audit.specs.Audit.{readBitmap}
 use Rattle.blocks.proofs.Laws.{then-refused}
-use Rattle.blocks.specs.Answers.{seenAs}
+use Rattle.blocks.specs.contracts.Answers.{thereAs}
 use borrow.Author.Tests.{not-true, not-false}
 use mathlib.Core.Path.{sym, ap, _∙_}
 use borrow.Author.Needs.{needs}
@@ -32,7 +32,7 @@ refused-requires-2 : tie.Need-refused-requires-2
 refused-requires-2 c κs = search needs
 
 returns : tie.Need-returns
-returns c = answer-refused _ _ _ _ _ (c .refused2 .ensures) (bitmap-short _ _ _ _ _ _ (sym (c .before .before .before .before .before .before .raw-block .ensures _) ∙ ap (seenAs _) (c .before .before .before .before .enum-told .given .1) ∙ ap given (sym (c .before .before .before .block .ensures))) (sym (c .before .before .has-bits .ensures) ∙ not-true _ (c .before .if1 .taken)))
+returns c = answer-refused _ _ _ _ _ (c .refused2 .ensures) (bitmap-short _ _ _ _ _ _ (sym (c .before .before .before .before .before .before .raw-block .ensures _) ∙ ap (thereAs _) (c .before .before .before .before .enum-told .given .1) ∙ ap given (sym (c .before .before .before .block .ensures))) (sym (c .before .before .has-bits .ensures) ∙ not-true _ (c .before .if1 .taken)))
 
 use-block-requires : tie.Need-use-block-requires
 use-block-requires c κs = search needs
@@ -41,14 +41,14 @@ tally-bitmap-requires : tie.Need-tally-bitmap-requires
 tally-bitmap-requires c κs = search needs
 
 returns-2 : tie.Need-returns-2
-unfolding bitmapRead
-returns-2 c = answer-refused _ _ _ _ _ (c .refused .ensures) (then-refused _ _ _ _ (sym (c .before .before .before .before .raw-block .ensures _) ∙ ap (seenAs _) (c .before .before .seen .given .1)))
+unfolding readBitmap
+returns-2 c = answer-refused _ _ _ _ _ (c .refused .ensures) (then-refused _ _ _ _ (sym (c .before .before .before .before .raw-block .ensures _) ∙ ap (thereAs _) (c .before .before .seen .given .1)))
 
 same-length : tie.Need-same-length
 same-length c = search needs
 
 returns-3 : tie.Need-returns-3
-returns-3 c = bitmap-there _ _ _ _ _ _ (sym (c .before .before .before .before .before .before .before .before .before .before .before .before .before .raw-block .ensures _) ∙ ap (seenAs _) (c .before .before .before .before .before .before .before .before .before .before .before .enum-told .given .1) ∙ ap given (sym (c .before .before .before .before .before .before .before .before .before .before .block .ensures))) (sym (c .before .before .before .before .before .before .before .before .before .has-bits .ensures) ∙ not-false _ (c .before .before .before .before .before .before .before .before .if1 .left)) (c .before .before .before .before .before .before .use-block .ensures) (c .before .before .tally-bitmap .ensures _)
+returns-3 c = bitmap-there _ _ _ _ _ _ (sym (c .before .before .before .before .before .before .before .before .before .before .before .before .before .raw-block .ensures _) ∙ ap (thereAs _) (c .before .before .before .before .before .before .before .before .before .before .before .enum-told .given .1) ∙ ap given (sym (c .before .before .before .before .before .before .before .before .before .before .block .ensures))) (sym (c .before .before .before .before .before .before .before .before .before .has-bits .ensures) ∙ not-false _ (c .before .before .before .before .before .before .before .before .if1 .left)) (c .before .before .before .before .before .before .use-block .ensures) (c .before .before .tally-bitmap .ensures _)
 
 pub read-bitmap-spec : {M : Type 1} → statement M
 read-bitmap-spec =

@@ -1,5 +1,5 @@
 use Rattle.audit.proofs.BitmapLaws.{tally-refused, tally-wrong, tally-done}
-use Rattle.blocks.specs.Answers.{addedAs}
+use Rattle.blocks.specs.contracts.Answers.{numberAs}
 use mathlib.Core.Path.{sym, ap, _∙_}
 use borrow.Author.Needs.{needs}
 use Rattle.audit.proofs.bitmap.tally.Statement.{statement}
@@ -32,17 +32,20 @@ refused-requires-2 c κs = search needs
 enum-known-wrong-2 : tie.Need-enum-known-wrong-2
 enum-known-wrong-2 c = search needs
 
+with-counts-requires : tie.Need-with-counts-requires
+with-counts-requires c κs = search needs
+
 done-requires : tie.Need-done-requires
 done-requires c κs = search needs
 
 returns : tie.Need-returns
-returns c = λ f count map. tally-refused f count map _ _ _ _ _ (sym (c .before .before .before .before .add .ensures f) ∙ ap addedAs (c .before .before .free .given .1)) (c .refused .ensures)
+returns c = λ f count map. tally-refused f count map _ _ _ _ _ (sym (c .before .before .before .before .add .ensures f) ∙ ap numberAs (c .before .before .free .given .1)) (c .refused .ensures)
 
 returns-2 : tie.Need-returns-2
-returns-2 c = λ f count map. tally-wrong f count map _ _ _ _ _ _ (sym (c .before .before .before .before .before .before .before .before .before .add .ensures f) ∙ ap addedAs (c .before .before .before .before .before .before .before .free2 .given .1)) (c .before .before .before .before .before .differing .ensures) _ (sym (c .before .before .before .before .add2 .ensures f) ∙ ap addedAs (c .before .before .wrong .given .1)) (c .refused2 .ensures)
+returns-2 c = λ f count map. tally-wrong f count map _ _ _ _ _ _ (sym (c .before .before .before .before .before .before .before .before .before .add .ensures f) ∙ ap numberAs (c .before .before .before .before .before .before .before .free2 .given .1)) (c .before .before .before .before .before .differing .ensures) _ (sym (c .before .before .before .before .add2 .ensures f) ∙ ap numberAs (c .before .before .wrong .given .1)) (c .refused2 .ensures)
 
 returns-3 : tie.Need-returns-3
-returns-3 c = λ f count map. tally-done f count map _ _ _ _ _ _ (sym (c .before .before .before .before .before .before .before .before .before .before .add .ensures f) ∙ ap addedAs (c .before .before .before .before .before .before .before .before .free2 .given .1)) (c .before .before .before .before .before .before .differing .ensures) _ (sym (c .before .before .before .before .before .add2 .ensures f) ∙ ap addedAs (c .before .before .before .wrong2 .given .1)) (c .done .ensures)
+returns-3 c = λ f count map. tally-done f count map _ _ _ _ _ _ (sym (c .before .before .before .before .before .before .before .before .before .before .add .ensures f) ∙ ap numberAs (c .before .before .before .before .before .before .before .before .free2 .given .1)) (c .before .before .before .before .before .before .differing .ensures) _ _ (sym (c .before .before .before .before .before .add2 .ensures f) ∙ ap numberAs (c .before .before .before .wrong2 .given .1)) (c .before .with-counts .ensures) (c .done .ensures)
 
 pub tally-spec : {M : Type 1} → statement M
 tally-spec =
@@ -57,6 +60,7 @@ tally-spec =
     enum-known-wrong
     refused-requires-2
     enum-known-wrong-2
+    with-counts-requires
     done-requires
     returns
     returns-2

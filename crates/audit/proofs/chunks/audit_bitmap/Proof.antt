@@ -1,15 +1,11 @@
-use Rattle.audit.proofs.Laws.{step-then, step-stop, unless-is}
-use Rattle.audit.specs.Answers.{bitmapEntered, bitmapRead, bitmapTallied}
-use Rattle.audit.specs.Audit.{auditBitmap, enter}
 use borrow.Author.Needs.{needs}
+use Rattle.audit.specs.Audit.{auditBitmap}
+use Rattle.report.proofs.StepLaws.{step-then, step-stop}
 use Rattle.audit.proofs.chunks.audit_bitmap.Statement.{statement}
 use Rattle.audit.proofs.chunks.audit_bitmap.Tie as tie
 
-pool-marked-requires : tie.Need-pool-marked-requires
-pool-marked-requires c κs = search needs
-
-unless-requires : tie.Need-unless-requires
-unless-requires c κs = search needs
+audit-use-requires : tie.Need-audit-use-requires
+audit-use-requires c κs = search needs
 
 enum-told : tie.Need-enum-told
 enum-told c = search needs
@@ -17,29 +13,32 @@ enum-told c = search needs
 enum-told-2 : tie.Need-enum-told-2
 enum-told-2 c = search needs
 
-enter-bitmap-requires : tie.Need-enter-bitmap-requires
-enter-bitmap-requires c κs = search needs
-
-returns : tie.Need-returns
-unfolding auditBitmap
-returns c = step-stop (unless-is _ _ _ _ _ (c .before .before .before .pool-marked .ensures) (c .before .before .unless .ensures _ _ _)) _ _ _ (c .enum-told .given .1)
+read-bitmap-requires : tie.Need-read-bitmap-requires
+read-bitmap-requires c κs = search needs
 
 same-length : tie.Need-same-length
 same-length c = search needs
 
+returns : tie.Need-returns
+unfolding auditBitmap
+returns c = step-stop (c .before .before .audit-use .ensures) _ _ _ (c .enum-told .given .1)
+
+same-length-2 : tie.Need-same-length-2
+same-length-2 c = c .before .before .read-bitmap .ensures .kept .long
+
 returns-2 : tie.Need-returns-2
-unfolding auditBitmap bitmapEntered bitmapRead bitmapTallied enter
-returns-2 c = step-then (unless-is _ _ _ _ _ (c .before .before .before .before .before .before .before .before .pool-marked .ensures) (c .before .before .before .before .before .before .before .unless .ensures _ _ _)) _ (c .before .before .before .before .before .enum-told2 .given .1) (c .before .before .enter-bitmap .ensures)
+unfolding auditBitmap
+returns-2 c = step-then (c .before .before .before .before .before .before .before .audit-use .ensures) _ (c .before .before .before .before .before .enum-told2 .given .1) (c .before .before .read-bitmap .ensures)
 
 pub audit-bitmap-spec : {M : Type 1} → statement M
 audit-bitmap-spec =
     tie.close
     (tie.spec
-    pool-marked-requires
-    unless-requires
+    audit-use-requires
     enum-told
     enum-told-2
-    enter-bitmap-requires
-    returns
+    read-bitmap-requires
     same-length
+    returns
+    same-length-2
     returns-2)

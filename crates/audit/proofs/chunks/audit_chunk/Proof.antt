@@ -1,5 +1,5 @@
 use Rattle.audit.proofs.ChunkLaws.{chunk-free, chunk-mapped}
-use Rattle.audit.proofs.Laws.{stepped-is}
+use Rattle.report.proofs.StepLaws.{stepped-is}
 use borrow.Author.Needs.{needs}
 use Rattle.audit.proofs.chunks.audit_chunk.Statement.{statement}
 use Rattle.audit.proofs.chunks.audit_chunk.Tie as tie

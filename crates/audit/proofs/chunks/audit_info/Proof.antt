@@ -1,5 +1,6 @@
-use Rattle.audit.proofs.Laws.{step-then, step-stop, unless-is}
-use Rattle.audit.specs.Answers.{infoRead, infoEntered}
+use Rattle.audit.proofs.Laws.{unless-is}
+use Rattle.report.proofs.StepLaws.{step-then, step-stop}
+use Rattle.audit.specs.Audit.{readInfo, enterInfo}
 use Rattle.audit.specs.Audit.{auditInfo}
 use borrow.Author.Needs.{needs}
 use Rattle.audit.proofs.chunks.audit_info.Statement.{statement}
@@ -28,7 +29,7 @@ same-length : tie.Need-same-length
 same-length c = search needs
 
 returns-2 : tie.Need-returns-2
-unfolding auditInfo infoRead infoEntered
+unfolding auditInfo readInfo enterInfo
 returns-2 c = step-then (unless-is _ _ _ _ _ (c .before .before .before .before .before .before .before .before .pool-marked .ensures) (c .before .before .before .before .before .before .before .unless .ensures _ _ _)) _ (c .before .before .before .before .before .enum-told2 .given .1) (c .before .before .read-info .ensures)
 
 pub audit-info-spec : {M : Type 1} → statement M

@@ -1,63 +1,58 @@
-use Rattle.audit.proofs.ChunkLaws.{infos-first, infos-done, infos-more}
-use Rattle.audit.proofs.Laws.{Reached, reached-first, reached-more, reached-stop, reached-answer}
-use Rattle.audit.specs.Answers.{poolAt}
-use Rattle.audit.specs.Audit.{auditInfos}
-use Rattle.manager.specs.Lists.{values}
-use Rattle.manager.specs.Manager.{chunkInfoCount, chunkInfosAt}
-use Rattle.manager.specs.Place.{bytesOf}
-use Rattle.blocks.specs.Blocks.{blockOf}
-use Prim.Native.Nat.{_+_, _-_, _*_, _≤_}
 use borrow.Author.Needs.{needs}
+use Rattle.audit.proofs.ChunkLaws.{infos-done, infos-first}
+use Rattle.audit.proofs.Laws.{answer-is}
+use Prim.Native.Nat.{_^_, _<_}
+use Rattle.audit.specs.contracts.Answers.{audited, infosLeft}
+use Rattle.report.proofs.StepLaws.{Left, left-first, left-kept, left-on, left-refused, left-done, stepped-is}
+use Rattle.blocks.specs.Blocks.{blockOf}
+use native.Mathlib.Omega.{arith}
 use Rattle.audit.proofs.chunks.audit_listed.Statement.{statement}
 use Rattle.audit.proofs.chunks.audit_listed.Tie as tie
 
 abbrev Inv-loop : tie.InvT-loop
-Inv-loop image map₀ container p m n found₀ k₀ map found k = let sm = bytesOf image (container .size) (p .manager) in (k ≤ n) × Reached (blockOf image (container .size)) (container .count) map₀ map (auditInfos container (poolAt image container p) (values 8 sm (n - k) (chunkInfosAt sm + 8 * k)) (record { map = map; figures = found })) (auditInfos container (poolAt image container p) (values 8 sm (chunkInfoCount sm) (chunkInfosAt sm)) (record { map = map₀; figures = found₀ }))
+Inv-loop image map₀ container place n found₀ at₀ map found at = (n < 2 ^ 32) × Left (blockOf image (container .size)) (container .count) at₀ at (audited map₀ found₀) (audited map found) (λ to. infosLeft container place to (blockOf image (container .size)))
 
 abbrev μ-loop : tie.MeasureT-loop
-μ-loop image map₀ container p m n found₀ k₀ map found k = n - k
+μ-loop image map₀ container place n found₀ at₀ map found at = at .left
 
 u32-of-requires : tie.Need-u32-of-requires Inv-loop μ-loop
 u32-of-requires c κs = search needs
 
 loop-holds : tie.Need-loop-holds Inv-loop μ-loop
-loop-holds c = (search needs, reached-first _ _ _ _ _ (infos-first _ _ _ _ _ _ _ (c .u32-of .ensures .is)))
+loop-holds c = (c .u32-of .ensures .fits, left-first _ _ _ _ _)
 
-chunk-info-requires : tie.Need-chunk-info-requires Inv-loop μ-loop
-chunk-info-requires c κs = search needs
+info-next-requires : tie.Need-info-next-requires Inv-loop μ-loop
+info-next-requires c κs = (omega arith, omega arith)
 
-audit-info-requires : tie.Need-audit-info-requires Inv-loop μ-loop
-audit-info-requires c κs = search needs
+enum-known-step : tie.Need-enum-known-step Inv-loop μ-loop
+enum-known-step c = search needs
 
-enum-told : tie.Need-enum-told Inv-loop μ-loop
-enum-told c = search needs
-
-returns : tie.Need-returns Inv-loop μ-loop
-returns c = reached-stop (c .before .before .before .before .before .before .before .before .loop .inv .1) (c .before .before .before .before .audit-info .ensures) _ (infos-more _ _ _ _ _ _ _ _ (c .before .before .before .before .before .before .chunk-info .ensures .is) (c .before .before .before .before .before .before .before .loop-test .taken)) _ _ (c .enum-told .given .1)
+refused-requires : tie.Need-refused-requires Inv-loop μ-loop
+refused-requires c κs = search needs
 
 same-length : tie.Need-same-length Inv-loop μ-loop
-same-length c = returns c .kept .long
+same-length c = left-kept (c .before .before .before .before .before .before .before .before .before .before .loop .inv .1) (c .before .before .before .before .before .before .info-next .ensures) .long
 
-enum-told-2 : tie.Need-enum-told-2 Inv-loop μ-loop
-enum-told-2 c = search needs
+returns : tie.Need-returns Inv-loop μ-loop
+returns c = answer-is _ _ _ (c .refused .ensures) (stepped-is (left-refused (c .before .before .before .before .before .before .before .before .before .before .loop .inv .1) (c .before .before .before .before .before .before .info-next .ensures) _ _ (c .before .before .step .given .1)) (infos-first _ _ _ _ _ _ _ (c .before .before .before .before .before .before .before .before .before .before .before .u32-of .ensures .is)))
 
-add-k : tie.Need-add-k Inv-loop μ-loop
-add-k c = search needs
+enum-known-step-2 : tie.Need-enum-known-step-2 Inv-loop μ-loop
+enum-known-step-2 c = search needs
 
 loop-less : tie.Need-loop-less Inv-loop μ-loop
-loop-less c = search needs
+loop-less c = c .before .before .before .before .before .before .info-next .ensures .further _ (c .before .before .step2 .given .1) .0
 
 loop-again : tie.Need-loop-again Inv-loop μ-loop
-loop-again c = (search needs, reached-more (c .before .before .before .before .before .before .before .before .before .loop .inv .1) (c .before .before .before .before .before .audit-info .ensures) _ (infos-more _ _ _ _ _ _ _ _ (c .before .before .before .before .before .before .before .chunk-info .ensures .is) (c .before .before .before .before .before .before .before .before .loop-test .taken)) (c .before .enum-told2 .given .1))
+loop-again c = (c .before .before .before .before .before .before .before .before .before .before .loop .inv .0, left-on (c .before .before .before .before .before .before .before .before .before .before .loop .inv .1) (c .before .before .before .before .before .before .info-next .ensures) _ (c .before .before .step2 .given .1))
 
 done-requires : tie.Need-done-requires Inv-loop μ-loop
 done-requires c κs = search needs
 
-returns-2 : tie.Need-returns-2 Inv-loop μ-loop
-returns-2 c = reached-answer (c .before .before .loop .inv .1) _ _ (c .done .ensures) (infos-done _ _ _ _ _ _ _ (c .before .loop-test .left))
-
 same-length-2 : tie.Need-same-length-2 Inv-loop μ-loop
-same-length-2 c = returns-2 c .kept .long
+same-length-2 c = c .before .before .before .loop .inv .1 .kept .long
+
+returns-2 : tie.Need-returns-2 Inv-loop μ-loop
+returns-2 c = answer-is _ _ _ (c .done .ensures) (stepped-is (left-done (c .before .before .before .loop .inv .1) (infos-done _ _ _ _ _ _ _ (c .before .if1 .left))) (infos-first _ _ _ _ _ _ _ (c .before .before .before .before .u32-of .ensures .is)))
 
 pub audit-listed-spec : {M : Type 1} → statement M
 audit-listed-spec =
@@ -67,13 +62,12 @@ audit-listed-spec =
     μ-loop
     u32-of-requires
     loop-holds
-    chunk-info-requires
-    audit-info-requires
-    enum-told
+    info-next-requires
+    enum-known-step
+    refused-requires
     same-length
     returns
-    enum-told-2
-    add-k
+    enum-known-step-2
     loop-less
     loop-again
     done-requires

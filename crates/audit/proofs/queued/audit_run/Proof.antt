@@ -1,59 +1,54 @@
-use Rattle.audit.proofs.QueuedLaws.{queued-done, queued-more}
-use Rattle.audit.proofs.Laws.{Reached, reached-first, reached-more, reached-stop, reached-answer}
-use Rattle.audit.specs.Answers.{poolAt}
-use Rattle.audit.specs.Audit.{auditQueuedFrom}
-use Rattle.blocks.specs.Blocks.{blockOf}
-use mathlib.Core.Path.{refl}
-use Prim.Native.Nat.{_+_, _-_, _≤_}
-use native.Mathlib.Nat.{sub-zero, add-zero}
 use borrow.Author.Needs.{needs}
+use Rattle.audit.proofs.QueuedLaws.{queued-done}
+use Rattle.audit.proofs.Laws.{answer-is}
+use Rattle.audit.specs.contracts.Answers.{audited, queuedLeft}
+use Rattle.report.proofs.StepLaws.{Left, left-first, left-kept, left-on, left-refused, left-done}
+use Rattle.blocks.specs.Blocks.{blockOf}
+use native.Mathlib.Omega.{arith}
 use Rattle.audit.proofs.queued.audit_run.Statement.{statement}
 use Rattle.audit.proofs.queued.audit_run.Tie as tie
 
 abbrev Inv-loop : tie.InvT-loop
-Inv-loop image map₀ container p run found₀ i₀ map found i = (i ≤ run .count) × Reached (blockOf image (container .size)) (container .count) map₀ map (auditQueuedFrom container (poolAt image container p) (run .count - i) (run .start + i) (record { map = map; figures = found })) (auditQueuedFrom container (poolAt image container p) (run .count) (run .start) (record { map = map₀; figures = found₀ }))
+Inv-loop image map₀ container place found₀ at₀ map found at = Left (blockOf image (container .size)) (container .count) at₀ at (audited map₀ found₀) (audited map found) (λ to. queuedLeft container place to (blockOf image (container .size)))
 
 abbrev μ-loop : tie.MeasureT-loop
-μ-loop image map₀ container p run found₀ i₀ map found i = run .count - i
+μ-loop image map₀ container place found₀ at₀ map found at = at .left
 
 loop-holds : tie.Need-loop-holds Inv-loop μ-loop
-loop-holds c = (search needs, reached-first _ _ _ _ _ (rw (sub-zero, add-zero) refl))
+loop-holds c = left-first _ _ _ _ _
 
-add-audit-queued-block : tie.Need-add-audit-queued-block Inv-loop μ-loop
-add-audit-queued-block c = search needs
+queued-next-requires : tie.Need-queued-next-requires Inv-loop μ-loop
+queued-next-requires c κs = ((omega arith, omega arith), omega arith)
 
-audit-queued-block-requires : tie.Need-audit-queued-block-requires Inv-loop μ-loop
-audit-queued-block-requires c κs = search needs
+enum-known-step : tie.Need-enum-known-step Inv-loop μ-loop
+enum-known-step c = search needs
 
-enum-told : tie.Need-enum-told Inv-loop μ-loop
-enum-told c = search needs
-
-returns : tie.Need-returns Inv-loop μ-loop
-returns c = reached-stop (c .before .before .before .before .before .before .before .before .before .loop .inv .1) (c .before .before .before .before .audit-queued-block .ensures) _ (queued-more _ _ _ _ _ _ (c .before .before .before .before .before .before .before .if1 .taken)) _ _ (c .enum-told .given .1)
+refused-requires : tie.Need-refused-requires Inv-loop μ-loop
+refused-requires c κs = search needs
 
 same-length : tie.Need-same-length Inv-loop μ-loop
-same-length c = returns c .kept .long
+same-length c = left-kept (c .before .before .before .before .before .before .before .before .before .before .loop .inv) (c .before .before .before .before .before .before .queued-next .ensures) .long
 
-enum-told-2 : tie.Need-enum-told-2 Inv-loop μ-loop
-enum-told-2 c = search needs
+returns : tie.Need-returns Inv-loop μ-loop
+returns c = answer-is _ _ _ (c .refused .ensures) (left-refused (c .before .before .before .before .before .before .before .before .before .before .loop .inv) (c .before .before .before .before .before .before .queued-next .ensures) _ _ (c .before .before .step .given .1))
 
-add-i : tie.Need-add-i Inv-loop μ-loop
-add-i c = search needs
+enum-known-step-2 : tie.Need-enum-known-step-2 Inv-loop μ-loop
+enum-known-step-2 c = search needs
 
 loop-less : tie.Need-loop-less Inv-loop μ-loop
-loop-less c = search needs
+loop-less c = c .before .before .before .before .before .before .queued-next .ensures .further _ (c .before .before .step2 .given .1) .0
 
 loop-again : tie.Need-loop-again Inv-loop μ-loop
-loop-again c = (search needs, reached-more (c .before .before .before .before .before .before .before .before .before .before .loop .inv .1) (c .before .before .before .before .before .audit-queued-block .ensures) _ (queued-more _ _ _ _ _ _ (c .before .before .before .before .before .before .before .before .if1 .taken)) (c .before .enum-told2 .given .1))
+loop-again c = left-on (c .before .before .before .before .before .before .before .before .before .before .loop .inv) (c .before .before .before .before .before .before .queued-next .ensures) _ (c .before .before .step2 .given .1)
 
 done-requires : tie.Need-done-requires Inv-loop μ-loop
 done-requires c κs = search needs
 
-returns-2 : tie.Need-returns-2 Inv-loop μ-loop
-returns-2 c = reached-answer (c .before .before .before .loop .inv .1) _ _ (c .done .ensures) (queued-done _ _ _ _ _ _ (c .before .if1 .left))
-
 same-length-2 : tie.Need-same-length-2 Inv-loop μ-loop
-same-length-2 c = returns-2 c .kept .long
+same-length-2 c = c .before .before .before .loop .inv .kept .long
+
+returns-2 : tie.Need-returns-2 Inv-loop μ-loop
+returns-2 c = answer-is _ _ _ (c .done .ensures) (left-done (c .before .before .before .loop .inv) (queued-done _ _ _ _ _ (c .before .if1 .left)))
 
 pub audit-run-spec : {M : Type 1} → statement M
 audit-run-spec =
@@ -62,13 +57,12 @@ audit-run-spec =
     Inv-loop
     μ-loop
     loop-holds
-    add-audit-queued-block
-    audit-queued-block-requires
-    enum-told
+    queued-next-requires
+    enum-known-step
+    refused-requires
     same-length
     returns
-    enum-told-2
-    add-i
+    enum-known-step-2
     loop-less
     loop-again
     done-requires

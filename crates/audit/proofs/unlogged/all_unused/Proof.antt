@@ -1,7 +1,8 @@
 use Rattle.audit.proofs.UnloggedLaws.{unused-done, unused-used, unused-unmarked, unused-more}
 use Rattle.pool.proofs.Laws.{block-fits, block-part}
-use Rattle.audit.specs.Answers.{poolAt}
-use Rattle.audit.specs.Unlogged.{allUnused}
+use Rattle.blocks.specs.Blocks.{blockOf}
+use Rattle.audit.specs.contracts.Answers.{poolAt}
+use Rattle.audit.specs.contracts.Unlogged.{allUnused}
 use borrow.Author.Tests.{not-true, not-false}
 use mathlib.Core.Path.{_≡_, refl, sym, _∙_}
 use Prim.Native.Nat.{_+_, _-_, _≤_}
@@ -12,10 +13,12 @@ use Rattle.audit.proofs.unlogged.all_unused.Statement.{statement}
 use Rattle.audit.proofs.unlogged.all_unused.Tie as tie
 
 abbrev Inv-loop : tie.InvT-loop
-Inv-loop image map container p run size k part first i₀ i = (i ≤ run .count) × (allUnused container (poolAt image container p) map (run .count - i) (run .start + i) ≡ allUnused container (poolAt image container p) map (run .count) (run .start))
+Inv-loop image map container place run size k part first i₀ i =
+    let pool = poolAt container place (blockOf image (container .size)) in
+    (i ≤ run .count) × (allUnused container pool map (run .count - i) (run .start + i) ≡ allUnused container pool map (run .count) (run .start))
 
 abbrev μ-loop : tie.MeasureT-loop
-μ-loop image map container p run size k part first i₀ i = run .count - i
+μ-loop image map container place run size k part first i₀ i = run .count - i
 
 pool-index-requires : tie.Need-pool-index-requires Inv-loop μ-loop
 pool-index-requires c κs = search needs

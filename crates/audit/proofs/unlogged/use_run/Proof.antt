@@ -1,5 +1,5 @@
 use Rattle.audit.proofs.UnloggedLaws.{use-done, use-more}
-use Rattle.audit.specs.Unlogged.{usedFrom}
+use Rattle.audit.specs.contracts.Unlogged.{usedFrom}
 use mathlib.Core.Path.{_≡_, refl, sym, ap, _∙_}
 use Prim.Native.Nat.{_+_, _-_, _≤_}
 use native.Mathlib.Nat.{sub-zero, add-zero}

@@ -1,7 +1,7 @@
 use native.Mathlib.Nat.{sub-zero}
 use borrow.Author.Needs.{needs}
 use Rattle.audit.proofs.WholeLaws.{bytes-few, bytes-long, bytes-more, byte-none, bits-over}
-use Rattle.audit.specs.Bits.{bitsMarked}
+use Rattle.audit.specs.contracts.Bits.{bitsMarked}
 use lib.ListN.{length}
 use mathlib.Core.Path.{_≡_, refl, sym, _∙_}
 use mathlib.Core.Logic.{⊎-elim}

@@ -1,7 +1,7 @@
 use native.Mathlib.Nat.{add-zero}
 use borrow.Author.Needs.{needs}
 use Rattle.audit.proofs.WholeLaws.{byte-more, bits-over}
-use Rattle.audit.specs.Bits.{bitsMarked}
+use Rattle.audit.specs.contracts.Bits.{bitsMarked}
 use Rattle.block_map.specs.BlockMap.{Marked}
 use lib.ListN.{length}
 use mathlib.Core.Path.{_≡_, refl, sym, ap, _∙_}

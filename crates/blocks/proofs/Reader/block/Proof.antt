@@ -37,7 +37,10 @@ use denote.Triple.Walked.{says, Stays, stay-none, walkOf, goes-none, Walks, ends
 use denote.Exit.{yes}
 use denote.Triple.Clauses.{ensured, lasts}
 use Rattle.blocks.specs.Blocks.{blockOf}
+use Rattle.blocks.specs.declared.Address.{Address}
 use Rattle.blocks.specs.declared.Reader.{Reader}
+use Rattle.blocks.proofs.Address as N
+use Rattle.blocks.proofs.Address.Laws as N′
 use Rattle.blocks.proofs.Reader as T
 use Rattle.blocks.proofs.Reader.Laws as T′
 use Rattle.blocks.proofs.Lent.{Held, Bytes, sliceOf, OwnReader, apart}
@@ -51,64 +54,64 @@ use Rattle.blocks.proofs.Reader.block.Statement as stated
 use Rattle.blocks.proofs.Reader.block.Code as code
 
 abbrev stayed : Stays (block.ended .signature .params) (block.ended .kept)
-stayed = (stay-none Held yes, (stay-none (λ _. u64) yes, tt))
+stayed = (stay-none Held yes, (stay-none (λ _. N.the-row) yes, tt))
 
 module _ {M : Type 1} (𝓤 : URA M) (H : Heap 𝓤) (A : Atoms 𝓤) (mem : Memory → SProp 𝓤) (run : Routine → Fun 𝓤) where
   -- the contract that the proof cites
   abbrev BlockIn : Contract 𝓤
   BlockIn = tripleOf 𝓤 H A callee.signature (callee.spec 𝓤 H A mem run)
 
-module _ {M : Type 1} (𝓤 : URA M) (H : Heap 𝓤) (A : Atoms 𝓤) (W : Given 𝓤 H A) (mem : Memory → SProp 𝓤) (run : Routine → Fun 𝓤) (κ : Lft) (q : Share) (d : Reader) (n : ℕ) (ok : n < 2 ^ 64) where
+module _ {M : Type 1} (𝓤 : URA M) (H : Heap 𝓤) (A : Atoms 𝓤) (W : Given 𝓤 H A) (mem : Memory → SProp 𝓤) (run : Routine → Fun 𝓤) (κ : Lft) (q : Share) (d : Reader) (a : Address) (is-a : Is N.the-row a (N′.lowered a ∷ [])) where
   abbrev mach : Val
   mach = T′.lowered d
 
   abbrev found : List ℕ
-  found = blockOf (now (d .image)) (d .size) n
+  found = blockOf (now (d .image)) (d .size) (a .0)
 
   abbrev Post : Val → SProp 𝓤
-  Post = walkOf 𝓤 H A block.ended stayed (block.clauses 𝓤 H A mem run) .post (((κ, tt), (q, tt), tt, (d, (n, tt)), (mach ∷ [], (vint w64 n ∷ [], tt))), tt)
+  Post = walkOf 𝓤 H A block.ended stayed (block.clauses 𝓤 H A mem run) .post (((κ, tt), (q, tt), tt, (d, (a, tt)), (mach ∷ [], (N′.lowered a ∷ [], tt))), tt)
 
   -- what the callee is passed
   abbrev passed : Vals callee.signature (κ, tt)
-  passed = (sliceOf (d .image) ∷ [], (vint w64 (d .size) ∷ [], (vint w64 n ∷ [], tt)))
+  passed = (sliceOf (d .image) ∷ [], (vint w64 (d .size) ∷ [], (N′.lowered a ∷ [], tt)))
 
   abbrev to : BlockIn 𝓤 H A mem run .Ghost
-  to = (((κ, tt), (q, tt), tt, (d .image, (d .size, (n, tt))), passed), tt)
+  to = (((κ, tt), (q, tt), tt, (d .image, (d .size, (a, tt))), passed), tt)
 
-  asked : ent 𝓤 (onEntry 𝓤 H A callee.signature (κ, tt) (q, tt) (d .image, (d .size, (n, tt))) passed) (BlockIn 𝓤 H A mem run .pre to)
-  asked = qed W ((‵ (flft κ q) ⊛ ‵ ftrue) ∷ ‵ (owns (Bytes κ ∷ u64 ∷ u64 ∷ []) (d .image, (d .size, (n, tt))) passed) ∷ []) ∵ join ! $ frame ! $ done !
+  asked : ent 𝓤 (onEntry 𝓤 H A callee.signature (κ, tt) (q, tt) (d .image, (d .size, (a, tt))) passed) (BlockIn 𝓤 H A mem run .pre to)
+  asked = qed W ((‵ (flft κ q) ⊛ ‵ ftrue) ∷ ‵ (owns (Bytes κ ∷ u64 ∷ N.the-row ∷ []) (d .image, (d .size, (a, tt))) passed) ∷ []) ∵ join ! $ frame ! $ done !
 
   -- what the function is passed gives what the callee asks, and the reader is kept
-  goes : d .size < 2 ^ 64 → ent 𝓤 (onEntry 𝓤 H A block.signature (κ, tt) (q, tt) (d, (n, tt)) (mach ∷ [], (vint w64 n ∷ [], tt))) (sep 𝓤 (BlockIn 𝓤 H A mem run .pre to) (sem 𝓤 H A (OwnReader κ d)))
+  goes : d .size < 2 ^ 64 → ent 𝓤 (onEntry 𝓤 H A block.signature (κ, tt) (q, tt) (d, (a, tt)) (mach ∷ [], (N′.lowered a ∷ [], tt))) (sep 𝓤 (BlockIn 𝓤 H A mem run .pre to) (sem 𝓤 H A (OwnReader κ d)))
   goes fits =
-      qed W ((‵ (flft κ q) ⊛ ‵ ftrue) ∷ ‵ (owns (Held (κ, tt) ∷ u64 ∷ []) (d, (n, tt)) (mach ∷ [], (vint w64 n ∷ [], tt))) ∷ []) ∵ move ! (1 ∷ []) $
-      use1 W (‵ (owns (Bytes κ ∷ u64 ∷ u64 ∷ []) (d .image, (d .size, (n, tt))) passed) ⊛ ‵ (OwnReader κ d)) (apart 𝓤 H A W κ d fits (u64 ∷ []) (n, tt) (vint w64 n ∷ [], tt)) $ split ! $
+      qed W ((‵ (flft κ q) ⊛ ‵ ftrue) ∷ ‵ (owns (Held (κ, tt) ∷ N.the-row ∷ []) (d, (a, tt)) (mach ∷ [], (N′.lowered a ∷ [], tt))) ∷ []) ∵ move ! (1 ∷ []) $
+      use1 W (‵ (owns (Bytes κ ∷ u64 ∷ N.the-row ∷ []) (d .image, (d .size, (a, tt))) passed) ⊛ ‵ (OwnReader κ d)) (apart 𝓤 H A W κ d fits (N.the-row ∷ []) (a, tt) (N′.lowered a ∷ [], tt)) $ split ! $
       move ! (2 ∷ 0 ∷ []) $ use2 W (raw (BlockIn 𝓤 H A mem run .pre to)) asked $ frame ! $ done !
 
   -- of the callee's `ensured`, the clause alone: it has no `&mut`, so what is said of last values is dropped
-  said : (r : RefT (List ℕ)) → ent 𝓤 (ensured 𝓤 H A callee.ended (callee.clauses 𝓤 H A mem run) (κ, tt) (d .image, (d .size, (n, tt))) tt r) (fact 𝓤 (now r ≡ found))
-  said r = exE 𝓤 _ (λ ws. snd∗ 𝓤 (sem 𝓤 H A (lasts callee.ended (κ, tt) (d .image, (d .size, (n, tt))) ws)) (fact 𝓤 (now r ≡ found)))
+  said : (r : RefT (List ℕ)) → ent 𝓤 (ensured 𝓤 H A callee.ended (callee.clauses 𝓤 H A mem run) (κ, tt) (d .image, (d .size, (a, tt))) tt r) (fact 𝓤 (now r ≡ found))
+  said r = exE 𝓤 _ (λ ws. snd∗ 𝓤 (sem 𝓤 H A (lasts callee.ended (κ, tt) (d .image, (d .size, (a, tt))) ws)) (fact 𝓤 (now r ≡ found)))
 
   -- what is owned at the exit: the answer, the token, and what was passed
   exits : (r : RefT (List ℕ)) (u : Val) → now r ≡ found → ent 𝓤 (⋆ 𝓤 H A (‵ (Bytes κ .own r (u ∷ [])) ∷ (‵ (flft κ q) ⊛ ‵ ftrue) ∷ ‵ (OwnReader κ d) ∷ [])) (Post u)
   exits r u e =
       qed W (‵ (Bytes κ .own r (u ∷ [])) ∷ (‵ (flft κ q) ⊛ ‵ ftrue) ∷ ‵ (OwnReader κ d) ∷ []) ∵
-      suffices ! _ (ends-at 𝓤 H A block.ended stayed (block.clauses 𝓤 H A mem run) W (((κ, tt), (q, tt), tt, (d, (n, tt)), (mach ∷ [], (vint w64 n ∷ [], tt))), tt) u r (tt, (tt, tt)) (tt, (tt, tt))) $ says ! e $
-      move ! (1 ∷ []) $ frame ! $ nothing ! $ owned ! u64 (Is u64) (uint-makes 𝓤 H A W w64) n _ (refl, ok) $ fjoin ! $ move ! (2 ∷ 0 ∷ []) $ fjoin ! $ frame ! $ done !
+      suffices ! _ (ends-at 𝓤 H A block.ended stayed (block.clauses 𝓤 H A mem run) W (((κ, tt), (q, tt), tt, (d, (a, tt)), (mach ∷ [], (N′.lowered a ∷ [], tt))), tt) u r (tt, (tt, tt)) (tt, (tt, tt))) $ says ! e $
+      move ! (1 ∷ []) $ frame ! $ nothing ! $ owned ! N.the-row (Is N.the-row) (LL.makes N.the-type N′.the-plain 𝓤 H A) a _ is-a $ fjoin ! $ move ! (2 ∷ 0 ∷ []) $ fjoin ! $ frame ! $ done !
 
   module _ (C : Calls 𝓤 H) (Λ : Loops 𝓤 H) (fm : FmC 𝓤 H (W .laws) C) (known : Triple 𝓤 (C #block-in) (BlockIn 𝓤 H A mem run)) where
-    walk : Holds (hasTy (T′.mir (named 0)) mach) × WT mach → ent 𝓤 (onEntry 𝓤 H A block.signature (κ, tt) (q, tt) (d, (n, tt)) (mach ∷ [], (vint w64 n ∷ [], tt))) (WpFn 𝓤 H C Λ code.function (mach ∷ vint w64 n ∷ []) Post)
+    walk : Holds (hasTy (T′.mir (named 0)) mach) × WT mach → ent 𝓤 (onEntry 𝓤 H A block.signature (κ, tt) (q, tt) (d, (a, tt)) (mach ∷ [], (N′.lowered a ∷ [], tt))) (WpFn 𝓤 H C Λ code.function (mach ∷ N′.lowered a ∷ []) Post)
     walk wt =
-        qed W (raw (onEntry 𝓤 H A block.signature (κ, tt) (q, tt) (d, (n, tt)) (mach ∷ [], (vint w64 n ∷ [], tt))) ∷ []) ∵ enter ! C Λ code.function (mach ∷ vint w64 n ∷ []) _ $
+        qed W (raw (onEntry 𝓤 H A block.signature (κ, tt) (q, tt) (d, (a, tt)) (mach ∷ [], (N′.lowered a ∷ [], tt))) ∷ []) ∵ enter ! C Λ code.function (mach ∷ N′.lowered a ∷ []) _ $
         -- room for each local, and the arguments stored in theirs
-        alloc1 ! (λ l₀. alloc1 ! (λ l₁. alloc1 ! (λ l₂. alloc1 ! (λ l₃. alloc1 ! (λ l₄. alloc0 ! $ params1 ! $ pass1 ! (init ! 6 refl wt) $ pass1 ! (init ! 4 refl (tt, record { fits = ok })) $ pass0 ! $
+        alloc1 ! (λ l₀. alloc1 ! (λ l₁. alloc1 ! (λ l₂. alloc1 ! (λ l₃. alloc1 ! (λ l₄. alloc0 ! $ params1 ! $ pass1 ! (init ! 6 refl wt) $ pass1 ! (init ! 4 refl (LL.lawful N.the-type N′.the-laws 𝓤 H A W .typed a _ is-a .0)) $ pass0 ! $
         -- image and size are read out of the reader, each into a local
         assigns ! (of-opd ! (load ! (from ! (fld ! refl (stop !))) (look-in ! 6 (sub ! 0 refl (whole !))))) (from ! (stop !)) (init ! 2 refl (tt, wt .1 .0)) $
         assigns ! (of-opd ! (load ! (from ! (fld ! refl (stop !))) (look-in ! 6 (sub ! 1 refl (whole !))))) (from ! (stop !)) (init ! 0 refl (tt, wt .1 .1 .0)) $
         -- the call, and what the callee's contract says of its answer
         move ! (10 ∷ []) $ use1 W (raw (BlockIn 𝓤 H A mem run .pre to) ⊛ ‵ (OwnReader κ d)) (goes (wt .1 .1 .0 .fits)) $ split ! $
         calls-at ! fm (BlockIn 𝓤 H A mem run) known to (and-then ! (load ! (from ! (stop !)) (look ! 4 refl)) (and-then ! (load ! (from ! (stop !)) (look ! 2 refl)) (and-then ! (load ! (from ! (stop !)) (look ! 6 refl)) (no-more !)))) (λ u.
-        use1 W (later (some (λ (r : RefT (List ℕ)). ((‵ (flft κ q) ⊛ ‵ ftrue) ⊛ ‵ (Bytes κ .own r (u ∷ []))) ⊛ raw (ensured 𝓤 H A callee.ended (callee.clauses 𝓤 H A mem run) (κ, tt) (d .image, (d .size, (n, tt))) tt r)))) (id⊢ 𝓤 _) $ await ! tt $ pick ! (λ r.
+        use1 W (later (some (λ (r : RefT (List ℕ)). ((‵ (flft κ q) ⊛ ‵ ftrue) ⊛ ‵ (Bytes κ .own r (u ∷ []))) ⊛ raw (ensured 𝓤 H A callee.ended (callee.clauses 𝓤 H A mem run) (κ, tt) (d .image, (d .size, (a, tt))) tt r)))) (id⊢ 𝓤 _) $ await ! tt $ pick ! (λ r.
         split ! $ move ! (1 ∷ []) $ use1 W (raw (fact 𝓤 (now r ≡ found))) (said r) $ heard ! (now r ≡ found) (λ e. split ! $ move ! (1 ∷ []) $
         -- [the result; the token; what the reader owns; _4; …; _3; …; _2; …; _1; …; room for _0; …]: it is stored in _0 and returned, and the locals are given up
         peeks ! (Bytes κ) (Is (Bytes κ)) (shows 𝓤 H A (Bytes κ)) r (u ∷ []) (λ is.
@@ -119,13 +122,13 @@ module _ {M : Type 1} (𝓤 : URA M) (H : Heap 𝓤) (A : Atoms 𝓤) (W : Given
 module _ {M : Type 1} (𝓤 : URA M) (H : Heap 𝓤) (A : Atoms 𝓤) (W : Given 𝓤 H A) (mem : Memory → SProp 𝓤) (run : Routine → Fun 𝓤) where
   block-walks : (C : Calls 𝓤 H) (Λ : Loops 𝓤 H) → FmC 𝓤 H (W .laws) C → Triple 𝓤 (C #block-in) (BlockIn 𝓤 H A mem run)
       → Walks 𝓤 H A block.ended stayed (WpFn 𝓤 H C Λ code.function) (block.clauses 𝓤 H A mem run)
-  block-walks C Λ fm known = walked 𝓤 H A block.ended stayed (block.clauses 𝓤 H A mem run) (WpFn 𝓤 H C Λ code.function) (λ κs. (LL.vals (T.the-type (namedLft 1 0 tt κs)) (T′.the-laws (namedLft 1 0 tt κs)), (uint-vals w64, tt))) (λ κs. (LL.tells (T.the-type (namedLft 1 0 tt κs)) (T′.the-laws (namedLft 1 0 tt κs)), (uint-tells w64, tt)))
-      (λ κs qs bounds a g are. via 𝓤 _ (fst∗ 𝓤 _ (emp 𝓤)) (walk 𝓤 H A W mem run (κs .0) (qs .0) (a .0) (a .1 .0) (are .1 .0 .1) C Λ fm known (LL.lawful (T.the-type (namedLft 1 0 tt κs)) (T′.the-laws (namedLft 1 0 tt κs)) 𝓤 H A W .typed (a .0) _ (are .0) .0)))
+  block-walks C Λ fm known = walked 𝓤 H A block.ended stayed (block.clauses 𝓤 H A mem run) (WpFn 𝓤 H C Λ code.function) (λ κs. (LL.vals (T.the-type (namedLft 1 0 tt κs)) (T′.the-laws (namedLft 1 0 tt κs)), (LL.vals N.the-type N′.the-laws, tt))) (λ κs. (LL.tells (T.the-type (namedLft 1 0 tt κs)) (T′.the-laws (namedLft 1 0 tt κs)), (LL.tells N.the-type N′.the-laws, tt)))
+      (λ κs qs bounds a g are. via 𝓤 _ (fst∗ 𝓤 _ (emp 𝓤)) (walk 𝓤 H A W mem run (κs .0) (qs .0) (a .0) (a .1 .0) (are .1 .0) C Λ fm known (LL.lawful (T.the-type (namedLft 1 0 tt κs)) (T′.the-laws (namedLft 1 0 tt κs)) 𝓤 H A W .typed (a .0) _ (are .0) .0)))
 
 block-meets : {M : Type 1} (𝓤 : URA M) (H : Heap 𝓤) (A : Atoms 𝓤) (W : Given 𝓤 H A) (mem : Memory → SProp 𝓤) (run : Routine → Fun 𝓤) (𝓣 : Tables 𝓤 H)
     → Triple 𝓤 (𝓣 .C #block-in) (BlockIn 𝓤 H A mem run)
     → Meets 𝓤 H A block.signature (WpFn 𝓤 H (𝓣 .C) (𝓣 .Λ) code.function) (block.spec 𝓤 H A mem run)
-block-meets 𝓤 H A W mem run 𝓣 known-callee = walk-meets 𝓤 H A block.ended stayed W (goes-none 𝓤 H A W 1 Held yes (λ κs x f. refl), (goes-none 𝓤 H A W 1 (λ _. u64) yes (λ κs x f. refl), tt)) (block.clauses 𝓤 H A mem run) (WpFn 𝓤 H (𝓣 .C) (𝓣 .Λ) code.function) (WpFn-mono 𝓤 H (W .laws) 𝓣 code.function)
+block-meets 𝓤 H A W mem run 𝓣 known-callee = walk-meets 𝓤 H A block.ended stayed W (goes-none 𝓤 H A W 1 Held yes (λ κs x f. refl), (goes-none 𝓤 H A W 1 (λ _. N.the-row) yes (λ κs x f. refl), tt)) (block.clauses 𝓤 H A mem run) (WpFn 𝓤 H (𝓣 .C) (𝓣 .Λ) code.function) (WpFn-mono 𝓤 H (W .laws) 𝓣 code.function)
     (block-walks 𝓤 H A W mem run (𝓣 .C) (𝓣 .Λ) (fmOf 𝓤 H (W .laws) 𝓣) known-callee)
 
 pub block-spec : {M : Type 1} → stated.statement M

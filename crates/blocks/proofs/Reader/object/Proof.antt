@@ -37,10 +37,10 @@ use denote.Exit.{yes}
 use denote.Triple.Clauses.{ensured, lasts}
 use Rattle.blocks.specs.Blocks.{blockOf, readObject}
 use Rattle.blocks.specs.Reads.{run as outcome}
-use Rattle.blocks.specs.Answers.{seenAs}
+use Rattle.blocks.specs.contracts.Answers.{thereAs}
 use Rattle.blocks.specs.declared.Container.{Container}
 use Rattle.blocks.specs.declared.Address.{Address}
-use Rattle.blocks.specs.declared.Seen.{Seen}
+use Rattle.blocks.specs.declared.Presence.{Presence}
 use Rattle.blocks.specs.declared.Reader.{Reader}
 use Rattle.blocks.proofs.Reader as T
 use Rattle.blocks.proofs.Reader.Laws as T′
@@ -48,8 +48,8 @@ use Rattle.blocks.proofs.Container as K
 use Rattle.blocks.proofs.Container.Laws as K′
 use Rattle.blocks.proofs.Address as N
 use Rattle.blocks.proofs.Address.Laws as N′
-use Rattle.blocks.proofs.Seen as S
-use Rattle.blocks.proofs.Seen.Laws as S′
+use Rattle.blocks.proofs.Presence as S
+use Rattle.blocks.proofs.Presence.Laws as S′
 use Rattle.blocks.proofs.Lent.{Held, Bytes, sliceOf, OwnReader, apart}
 use Rattle.blocks.proofs.object_in as callee
 use Rattle.blocks.proofs.object_in.Symbol as callee-def
@@ -73,8 +73,8 @@ module _ {M : Type 1} (𝓤 : URA M) (H : Heap 𝓤) (A : Atoms 𝓤) (W : Given
   mach = T′.lowered d
 
   -- what the contract says of an answer
-  abbrev Answers : Seen → Type 0
-  Answers r = seenAs (blockOf (now (d .image)) (d .size) (a .0)) r ≡ outcome (blockOf (now (d .image)) (d .size)) (readObject c a)
+  abbrev Answers : Presence → Type 0
+  Answers r = thereAs (blockOf (now (d .image)) (d .size) (a .0)) r ≡ outcome (blockOf (now (d .image)) (d .size)) (readObject c a)
 
   abbrev Post : Val → SProp 𝓤
   Post = walkOf 𝓤 H A object.ended stayed (object.clauses 𝓤 H A mem run) .post (((κ, tt), (q, tt), tt, (d, (c, (a, tt))), (mach ∷ [], (K′.lowered c ∷ [], (N′.lowered a ∷ [], tt)))), tt)
@@ -97,11 +97,11 @@ module _ {M : Type 1} (𝓤 : URA M) (H : Heap 𝓤) (A : Atoms 𝓤) (W : Given
       move ! (2 ∷ 0 ∷ []) $ use2 W (raw (ObjectIn 𝓤 H A mem run .pre to)) asked $ frame ! $ done !
 
   -- of the callee's `ensured`, the clause alone: it has no `&mut`, so what is said of last values is dropped
-  said : (r : Seen) → ent 𝓤 (ensured 𝓤 H A callee.ended (callee.clauses 𝓤 H A mem run) (κ, tt) (d .image, (d .size, (c, (a, tt)))) tt r) (fact 𝓤 (Answers r))
+  said : (r : Presence) → ent 𝓤 (ensured 𝓤 H A callee.ended (callee.clauses 𝓤 H A mem run) (κ, tt) (d .image, (d .size, (c, (a, tt)))) tt r) (fact 𝓤 (Answers r))
   said r = exE 𝓤 _ (λ ws. snd∗ 𝓤 (sem 𝓤 H A (lasts callee.ended (κ, tt) (d .image, (d .size, (c, (a, tt)))) ws)) (fact 𝓤 (Answers r)))
 
   -- what is owned at the exit: the answer, the token, and what was passed
-  exits : (r : Seen) (u : Val) → Answers r → ent 𝓤 (⋆ 𝓤 H A (‵ (S.the-row .own r (u ∷ [])) ∷ (‵ (flft κ q) ⊛ ‵ ftrue) ∷ ‵ (OwnReader κ d) ∷ [])) (Post u)
+  exits : (r : Presence) (u : Val) → Answers r → ent 𝓤 (⋆ 𝓤 H A (‵ (S.the-row .own r (u ∷ [])) ∷ (‵ (flft κ q) ⊛ ‵ ftrue) ∷ ‵ (OwnReader κ d) ∷ [])) (Post u)
   exits r u e =
       qed W (‵ (S.the-row .own r (u ∷ [])) ∷ (‵ (flft κ q) ⊛ ‵ ftrue) ∷ ‵ (OwnReader κ d) ∷ []) ∵
       suffices ! _ (ends-at 𝓤 H A object.ended stayed (object.clauses 𝓤 H A mem run) W (((κ, tt), (q, tt), tt, (d, (c, (a, tt))), (mach ∷ [], (K′.lowered c ∷ [], (N′.lowered a ∷ [], tt)))), tt) u r (tt, (tt, (tt, tt))) (tt, (tt, (tt, tt)))) $ says ! e $
@@ -119,7 +119,7 @@ module _ {M : Type 1} (𝓤 : URA M) (H : Heap 𝓤) (A : Atoms 𝓤) (W : Given
         -- the call, and what the callee's contract says of its answer
         move ! (12 ∷ []) $ use1 W (raw (ObjectIn 𝓤 H A mem run .pre to) ⊛ ‵ (OwnReader κ d)) (goes (wt .1 .1 .0 .fits)) $ split ! $
         calls-at ! fm (ObjectIn 𝓤 H A mem run) known to (and-then ! (load ! (from ! (stop !)) (look ! 4 refl)) (and-then ! (load ! (from ! (stop !)) (look ! 2 refl)) (and-then ! (load ! (from ! (stop !)) (look ! 8 refl)) (and-then ! (load ! (from ! (stop !)) (look ! 6 refl)) (no-more !))))) (λ u.
-        use1 W (later (some (λ (r : Seen). ((‵ (flft κ q) ⊛ ‵ ftrue) ⊛ ‵ (S.the-row .own r (u ∷ []))) ⊛ raw (ensured 𝓤 H A callee.ended (callee.clauses 𝓤 H A mem run) (κ, tt) (d .image, (d .size, (c, (a, tt)))) tt r)))) (id⊢ 𝓤 _) $ await ! tt $ pick ! (λ r.
+        use1 W (later (some (λ (r : Presence). ((‵ (flft κ q) ⊛ ‵ ftrue) ⊛ ‵ (S.the-row .own r (u ∷ []))) ⊛ raw (ensured 𝓤 H A callee.ended (callee.clauses 𝓤 H A mem run) (κ, tt) (d .image, (d .size, (c, (a, tt)))) tt r)))) (id⊢ 𝓤 _) $ await ! tt $ pick ! (λ r.
         split ! $ move ! (1 ∷ []) $ use1 W (raw (fact 𝓤 (Answers r))) (said r) $ heard ! (Answers r) (λ e. split ! $ move ! (1 ∷ []) $
         -- [the result; the token; what the reader owns; _5; …; _4; …; _3; …; _2; …; _1; …; room for _0; …]: it is stored in _0 and returned, and the locals are given up
         peeks ! S.the-row (Is S.the-row) (shows 𝓤 H A S.the-row) r (u ∷ []) (λ is.

@@ -16,7 +16,7 @@ size-allowed-requires : tie.Need-size-allowed-requires
 size-allowed-requires c κs = search needs
 
 -- the size passed
-size-passed : (c : lts.Else1 (size-allowed-reads.Asked, size-allowed-reads.Learnt) reads.Pre reads.Post) → sizeAllowed (c .before .before .args .g .size) ≡ true
+size-passed : (c : lts.Else1 (size-allowed-reads.Asked, size-allowed-reads.Learnt) reads.Pre reads.Post) → sizeAllowed (c .before .before .args .geometry .size) ≡ true
 size-passed c = sym (c .before .size-allowed .ensures) ∙ not-false _ (c .if1 .left)
 
 returns : tie.Need-returns

@@ -6,7 +6,7 @@ use mathlib.Core.Bool.{true}
 use Rattle.blocks.specs.Reads.{run}
 use Rattle.blocks.specs.Blocks.{blockOf}
 use Rattle.checkpoint.specs.Map.{chain}
-use Rattle.checkpoint.specs.InPlace.{turns, testedAs, loads}
+use Rattle.checkpoint.specs.contracts.InPlace.{turns, testedAs, loads}
 use Rattle.checkpoint.proofs.ChainLaws.{testTurn, turns-done, turns-stop, turns-onward, loads-ring}
 use Rattle.checkpoint.proofs.chain.loads.Statement.{statement}
 use Rattle.checkpoint.proofs.chain.loads.Tie as tie
@@ -22,7 +22,7 @@ abbrev μ-loop : tie.MeasureT-loop
 μ-loop image g sb n k₀ k = n - k
 
 -- what is left at the loop's head is the whole
-whole : (c : lts.At-loop (chain-blocks-reads.Asked, chain-blocks-reads.Learnt, test-block-reads.Asked, test-block-reads.Learnt) reads.Pre reads.Post Inv-loop μ-loop) → let a = c .before .before .before .before .args in turns (testTurn (blockOf (a .image .now) (a .g .size)) (a .g) (a .sb .now)) true (c .before .chain-blocks .result - c .loop .k) (c .loop .k) ≡ loads (run (blockOf (a .image .now) (a .g .size)) (chain (a .g) (a .sb .now)))
+whole : (c : lts.At-loop (chain-blocks-reads.Asked, chain-blocks-reads.Learnt, test-block-reads.Asked, test-block-reads.Learnt) reads.Pre reads.Post Inv-loop μ-loop) → let a = c .before .before .before .before .args in turns (testTurn (blockOf (a .image .now) (a .geometry .size)) (a .geometry) (a .sb .now)) true (c .before .chain-blocks .result - c .loop .k) (c .loop .k) ≡ loads (run (blockOf (a .image .now) (a .geometry .size)) (chain (a .geometry) (a .sb .now)))
 whole c = c .loop .inv ∙ rw (c .before .chain-blocks .ensures .0) (loads-ring _ _ _ (c .before .before .before .before .pre))
 
 chain-blocks-requires : tie.Need-chain-blocks-requires Inv-loop μ-loop

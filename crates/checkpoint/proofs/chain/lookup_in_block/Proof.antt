@@ -18,7 +18,7 @@ Inv-loop b id n i₀ i = left b id n i ≡ left b id n 0
 abbrev μ-loop : tie.MeasureT-loop
 μ-loop b id n i₀ i = n - i
 
-whole : (c : lts.At-loop (map-count-reads.Asked, map-count-reads.Learnt, u64-of-reads.Asked, u64-of-reads.Learnt, mapping-at-reads.Asked, mapping-at-reads.Learnt) reads.Pre reads.Post Inv-loop μ-loop) → left (c .before .before .before .args .b .now) (c .before .before .before .args .id) (c .before .map-count .result) (c .loop .i) ≡ lookup (c .before .before .before .args .id) (mappingsOf (c .before .before .before .args .b .now))
+whole : (c : lts.At-loop (map-count-reads.Asked, map-count-reads.Learnt, u64-of-reads.Asked, u64-of-reads.Learnt, mapping-at-reads.Asked, mapping-at-reads.Learnt) reads.Pre reads.Post Inv-loop μ-loop) → left (c .before .before .before .args .block .now) (c .before .before .before .args .id) (c .before .map-count .result) (c .loop .i) ≡ lookup (c .before .before .before .args .id) (mappingsOf (c .before .before .before .args .block .now))
 whole c = c .loop .inv ∙ rw (c .before .map-count .ensures .0, sub-zero) refl
 
 map-count-requires : tie.Need-map-count-requires Inv-loop μ-loop

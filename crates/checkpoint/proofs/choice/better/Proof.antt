@@ -5,8 +5,8 @@ use borrow.Author.Needs.{needs}
 use Rattle.checkpoint.proofs.choice.better.Statement.{statement}
 use Rattle.checkpoint.proofs.choice.better.Tie as tie
 
-add-block : tie.Need-add-block
-add-block c = search needs
+add-n : tie.Need-add-n
+add-n c = search needs
 
 block-requires : tie.Need-block-requires
 block-requires c κs = search needs
@@ -51,7 +51,7 @@ pub better-spec : {M : Type 1} → statement M
 better-spec =
     tie.close
     (tie.spec
-    add-block
+    add-n
     block-requires
     kind-requires
     returns

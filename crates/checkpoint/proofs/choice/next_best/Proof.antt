@@ -27,10 +27,10 @@ loop-less : tie.Need-loop-less Inv-loop μ-loop
 loop-less c = search needs
 
 loop-again : tie.Need-loop-again Inv-loop μ-loop
-loop-again c = sym (best-turn _ (c .before .before .before .before .before .args .g) _ _ _ _ (c .before .if1 .taken) (c .better .ensures)) ∙ c .before .before .before .loop .inv
+loop-again c = sym (best-turn _ (c .before .before .before .before .before .args .geometry) _ _ _ _ (c .before .if1 .taken) (c .better .ensures)) ∙ c .before .before .before .loop .inv
 
 returns : tie.Need-returns Inv-loop μ-loop
-returns c = sym (best-done _ (c .before .before .before .before .args .g) _ _ _ (c .if1 .left)) ∙ c .before .before .loop .inv ∙ rw (sub-zero, add-zero) refl
+returns c = sym (best-done _ (c .before .before .before .before .args .geometry) _ _ _ (c .if1 .left)) ∙ c .before .before .loop .inv ∙ rw (sub-zero, add-zero) refl
 
 pub next-best-spec : {M : Type 1} → statement M
 next-best-spec =

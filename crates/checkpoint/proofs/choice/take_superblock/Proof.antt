@@ -26,13 +26,13 @@ enum-known-best : tie.Need-enum-known-best Inv-loop μ-loop
 enum-known-best c = search needs
 
 add-n : tie.Need-add-n Inv-loop μ-loop
-add-n c = record { fits = omega (arith, next-inside _ (c .before .before .before .before .before .before .before .before .before .args .g) _ _ (sym (c .before .before .before .before .before .next-best .ensures) ∙ c .before .before .before .best .given .1)) }
+add-n c = record { fits = omega (arith, next-inside _ (c .before .before .before .before .before .before .before .before .before .args .geometry) _ _ (sym (c .before .before .before .before .before .next-best .ensures) ∙ c .before .before .before .best .given .1)) }
 
 block-requires : tie.Need-block-requires Inv-loop μ-loop
 block-requires c κs = search needs
 
 loads-requires : tie.Need-loads-requires Inv-loop μ-loop
-loads-requires c κs = omega (arith, next-inside _ (c .before .before .before .before .before .before .before .before .before .before .args .g) _ _ (sym (c .before .before .before .before .before .before .next-best .ensures) ∙ c .before .before .before .before .best .given .1))
+loads-requires c κs = omega (arith, next-inside _ (c .before .before .before .before .before .before .before .before .before .before .args .geometry) _ _ (sym (c .before .before .before .before .before .before .next-best .ensures) ∙ c .before .before .before .before .best .given .1))
 
 sub-left : tie.Need-sub-left Inv-loop μ-loop
 sub-left c = search needs

@@ -1,8 +1,10 @@
 use mathlib.Core.Path.{sym, ap, _∙_}
-use Rattle.queue.specs.Answers.{gotAs}
-use Rattle.claims.proofs.Laws.{mapping-ghost, mapping-given}
+use Rattle.blocks.specs.Reads.{noBlocks, run}
+use Rattle.blocks.proofs.Laws.{then-given}
+use Rattle.blocks.specs.contracts.Answers.{numberAs}
+use Rattle.claims.proofs.Laws.{mapping-ghost, mapping-claim}
 use Rattle.block_map.proofs.Laws.{kept-same, not-made, was-made}
-use Rattle.claims.proofs.UnloggedLaws.{made-as}
+use Rattle.claims.proofs.UnloggedLaws.{always-is, made-as, ghost-alone, address-missing, address-there}
 use borrow.Author.Needs.{needs}
 use Rattle.claims.proofs.unlogged.claim_mapping.Statement.{statement}
 use Rattle.claims.proofs.unlogged.claim_mapping.Tie as tie
@@ -26,16 +28,27 @@ claim-unlogged-requires : tie.Need-claim-unlogged-requires
 claim-unlogged-requires c κs = search needs
 
 returns : tie.Need-returns
-returns c f = let a = c .before .before .before .before .before .args in was-made (λ log. mapping-ghost f _ _ (a .node .now) (a .e) (c .enum-told .given .1)) (kept-same _ _)
+returns c =
+    let a = c .before .before .before .before .before .args in
+    (ghost-alone _ (a .node .now) (a .place) _ (c .enum-told .given .1), λ f. was-made (λ log. mapping-ghost _ _ (a .node .now) (a .place) (c .enum-told .given .1) f) (kept-same _ _))
 
 returns-2 : tie.Need-returns-2
-returns-2 c f = not-made
+returns-2 c =
+    let a = c .before .before .before .before .before .before .before .before .before .args in
+    (address-missing _ (a .node .now) (a .place) _ _ (c .before .before .before .before .value .given .1) _ (sym (c .before .before .mapped-address .ensures noBlocks) ∙ ap numberAs (c .enum-told2 .given .1)), λ f. not-made)
 
 same-length : tie.Need-same-length
 same-length c = search needs
 
 returns-3 : tie.Need-returns-3
-returns-3 c f = let a = c .before .before .before .before .before .before .before .before .before .before .before .before .before .before .args in made-as (c .before .before .claim-unlogged .ensures f) (λ log. mapping-given f _ _ (a .node .now) (a .e) _ (c .before .before .before .before .before .before .before .before .before .value .given .1) _ (sym (c .before .before .before .before .before .before .before .mapped-address .ensures f) ∙ ap gotAs (c .before .before .before .before .before .got .given .1)))
+returns-3 c =
+    let claimed = c .before .before in
+    let got = claimed .before .before .before in
+    let mapped = got .before .before in
+    let value = mapped .before .before in
+    let a = value .before .before .before .before .before .args in
+    let address = always-is _ _ (mapped .mapped-address .ensures) _ (ap numberAs (got .got .given .1)) in
+    (claimed .claim-unlogged .ensures .0 ∙ address-there _ (a .node .now) (a .place) _ _ (value .value .given .1) _ (address noBlocks), λ f. made-as (claimed .claim-unlogged .ensures .1 f) (λ log. ap (run f) (mapping-claim _ _ (a .node .now) (a .place) _ (value .value .given .1)) ∙ then-given f _ _ _ (address f)))
 
 pub claim-mapping-spec : {M : Type 1} → statement M
 claim-mapping-spec =

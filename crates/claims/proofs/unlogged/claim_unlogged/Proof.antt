@@ -1,7 +1,8 @@
 use mathlib.Core.Path.{sym, ap, _∙_}
-use Rattle.blocks.specs.Answers.{addedAs}
-use Rattle.block_map.proofs.Laws.{not-made, was-made}
-use Rattle.claims.proofs.UnloggedLaws.{claim-made}
+use Rattle.blocks.specs.Reads.{noBlocks}
+use Rattle.blocks.specs.contracts.Answers.{numberAs}
+use Rattle.block_map.proofs.Laws.{not-made}
+use Rattle.claims.proofs.UnloggedLaws.{always-is, sum-missing, sum-there, claim-made}
 use borrow.Author.Needs.{needs}
 use Rattle.claims.proofs.unlogged.claim_unlogged.Statement.{statement}
 use Rattle.claims.proofs.unlogged.claim_unlogged.Tie as tie
@@ -28,20 +29,25 @@ same-length : tie.Need-same-length
 same-length c = search needs
 
 returns : tie.Need-returns
-returns c f =
+returns c =
     let own = c .before .before in
     let all = own .before .before .before in
     let end = all .before .before in
-    was-made (claim-made f _ _ _ _ _ _ _ _ (sym (end .before .before .before .before .add .ensures f) ∙ ap addedAs (end .before .before .sum .given .1)) (end .least .ensures) _ (all .takes-all .ensures) (own .before .before .if1 .taken) (own .own-all .ensures .0)) (own .own-all .ensures .1)
+    let start = end .before .before .before .before in
+    let sum = always-is _ _ (start .add .ensures) _ (ap numberAs (end .before .before .sum .given .1)) in
+    (sym (own .before .before .if1 .taken) ∙ sum-there _ _ _ _ _ _ sum _ (end .least .ensures) _ (all .takes-all .ensures), claim-made _ _ _ _ _ _ sum _ (end .least .ensures) _ (all .takes-all .ensures) (own .before .before .if1 .taken) _ (start .before .before .pre) (own .own-all .ensures))
 
 returns-2 : tie.Need-returns-2
-returns-2 c f = not-made
+returns-2 c = (sum-missing _ _ _ _ _ _ (sym (c .before .before .add .ensures noBlocks) ∙ ap numberAs (c .enum-told .given .1)), λ f. not-made)
 
 same-length-2 : tie.Need-same-length-2
 same-length-2 c = search needs
 
 returns-3 : tie.Need-returns-3
-returns-3 c f = not-made
+returns-3 c =
+    let all = c .before in
+    let end = all .before .before in
+    (sym (c .if1 .left) ∙ sum-there _ _ _ _ _ _ (always-is _ _ (end .before .before .before .before .add .ensures) _ (ap numberAs (end .before .before .sum .given .1))) _ (end .least .ensures) _ (all .takes-all .ensures), λ f. not-made)
 
 pub claim-unlogged-spec : {M : Type 1} → statement M
 claim-unlogged-spec =

@@ -1,7 +1,7 @@
 use mathlib.Core.Path.{_≡_, refl, sym, _∙_}
 use Prim.Native.Nat.{_-_}
 use borrow.Author.Needs.{needs}
-use Rattle.claims.specs.Unlogged.{takenFrom}
+use Rattle.claims.specs.contracts.Unlogged.{takenFrom}
 use Rattle.claims.proofs.UnloggedLaws.{taken-done, taken-more, taken-not}
 use Rattle.claims.proofs.unlogged.takes_all.Statement.{statement}
 use Rattle.claims.proofs.unlogged.takes_all.Tie as tie

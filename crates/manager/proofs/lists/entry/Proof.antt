@@ -15,7 +15,7 @@ returns : tie.Need-returns
 returns c = entry-none _ _ _ (entry-past _ _ _ (search needs) (search needs) _ _ (placed-length _ _ _) (search needs) (c .if1 .taken))
 
 mul-number : tie.Need-mul-number
-mul-number c = let a = c .before .before .args in record { fits = omega (arith, entry-fits (a .w) (a .at) (a .i) (search needs) (search needs) (c .if1 .left)) }
+mul-number c = let a = c .before .before .args in record { fits = omega (arith, entry-fits (a .width) (a .at) (a .index) (search needs) (search needs) (c .if1 .left)) }
 
 add-number : tie.Need-add-number
 add-number c = record { fits = entry-fits _ _ _ (search needs) (search needs) (c .if1 .left) }

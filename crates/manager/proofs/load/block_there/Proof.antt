@@ -1,5 +1,5 @@
 use native.Mathlib.Omega.{arith}
-use Rattle.manager.specs.Place.{addressIn}
+use Rattle.manager.specs.contracts.Place.{addressIn}
 use Rattle.manager.proofs.LoadLaws.{goes-below, goes-past-sum, goes-past-end, goes-past, goes-there}
 use borrow.Author.Needs.{needs}
 use Rattle.manager.proofs.load.block_there.Statement.{statement}

@@ -14,7 +14,7 @@ div-result-2 : tie.Need-div-result-2
 div-result-2 c = search needs
 
 add-result : tie.Need-add-result
-add-result c = record { fits = omega (arith, quotient-below (c .before .args .n) (c .before .args .container .size) (search needs) (omega arith)) }
+add-result c = record { fits = omega (arith, quotient-below (c .before .args .length) (c .before .args .container .size) (search needs) (omega arith)) }
 
 returns : tie.Need-returns
 returns c = blocks-even _ _ (search needs) (c .if1 .taken)

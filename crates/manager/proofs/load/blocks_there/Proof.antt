@@ -1,4 +1,4 @@
-use Rattle.manager.proofs.LoadLaws.{Left, left-first, left-more, left-refused, left-done, if-there}
+use Rattle.manager.proofs.LoadLaws.{Left, left-first, left-more, left-refused, left-done, where-there}
 use Prim.Native.Nat.{ℕ, _-_, _≤_, _<_}
 use mathlib.Core.Path.{_≡_}
 use mathlib.Core.List.{List}
@@ -6,7 +6,7 @@ use native.Mathlib.Omega.{arith}
 use borrow.Author.Needs.{needs}
 use borrow.Author.Count.{below-more}
 use Rattle.checkpoint.specs.declared.Mapping.{Mapping}
-use Rattle.manager.specs.Place.{placeOf, addressIn}
+use Rattle.manager.specs.contracts.Place.{placeOf, addressIn}
 use Rattle.manager.proofs.load.blocks_there.Statement.{statement}
 use Rattle.manager.proofs.load.blocks_there.Tie as tie
 
@@ -49,13 +49,13 @@ loop-again c =
     let l = block .before .before .loop in (
       search needs,
       λ f sb mp q. left-more f _ sb mp _ _ (block .before .loop-test .taken) (l .inv .1 f sb mp q) _ (c .enum-told .given .1) (block .block-there .ensures .goes f sb mp q),
-      below-more _ _ (l .inv .2) (if-there _ _ (c .enum-told .given .1) (block .block-there .ensures .inside)),
+      below-more _ _ (l .inv .2) (where-there _ _ (c .enum-told .given .1) (block .block-there .ensures .inside)),
     )
 
 returns-2 : tie.Need-returns-2 Inv-loop μ-loop
 returns-2 c =
     let l = c .before .loop in
-    let e : l .i ≡ c .before .before .args .n = omega arith in
+    let e : l .i ≡ c .before .before .args .blocks = omega arith in
     record { goes = λ f sb mp q. left-done f _ sb mp _ _ (l .inv .0) (c .loop-test .left) (l .inv .1 f sb mp q); inside = rw e at (l .inv .2) }
 
 pub blocks-there-spec : {M : Type 1} → statement M

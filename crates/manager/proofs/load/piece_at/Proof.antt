@@ -37,7 +37,7 @@ returns c =
 returns-2 : tie.Need-returns-2
 returns-2 c =
     let start = c .before .before .before .before .before in
-    piece-cut _ _ _ (start .pre .0) _ (start .pre .2) (start .args .m .size - start .args .pos) _ _ (c .before .before .ring-block .ensures) (c .part-of2 .ensures) (omega arith) (omega arith) (omega arith) (omega arith)
+    piece-cut _ _ _ (start .pre .0) _ (start .pre .2) (start .args .manager .size - start .args .pos) _ _ (c .before .before .ring-block .ensures) (c .part-of2 .ensures) (omega arith) (omega arith) (omega arith) (omega arith)
 
 pub piece-at-spec : {M : Type 1} → statement M
 piece-at-spec =

@@ -6,7 +6,7 @@ use native.Mathlib.Omega.{arith}
 use borrow.Author.Needs.{needs}
 use Rattle.fletcher.specs.Fletcher.{fletcher, checksum}
 use Rattle.manager.proofs.Laws.{placed-length}
-use Rattle.manager.specs.Place.{bytesOf}
+use Rattle.manager.specs.contracts.Place.{bytesOf}
 use Rattle.manager.proofs.LoadLaws.{sums-more, sums-done}
 use Rattle.manager.proofs.load.sums_of.Statement.{statement}
 use Rattle.manager.proofs.load.sums_of.Tie as tie
@@ -35,10 +35,10 @@ add-requires : tie.Need-add-requires Inv-loop μ-loop
 add-requires c κs = search needs
 
 -- a piece ends inside the manager
-fits : (c : lts.After-add (piece-at-reads.Asked, piece-at-reads.Learnt, add-reads.Asked, add-reads.Learnt) reads.Pre reads.Post Inv-loop μ-loop) → c .before .before .before .before .loop .pos + length (c .before .piece-at .result .now) ≤ c .before .before .before .before .before .before .args .m .size
+fits : (c : lts.After-add (piece-at-reads.Asked, piece-at-reads.Learnt, add-reads.Asked, add-reads.Learnt) reads.Pre reads.Post Inv-loop μ-loop) → c .before .before .before .before .loop .pos + length (c .before .piece-at .result .now) ≤ c .before .before .before .before .before .before .args .manager .size
 fits c =
     let start = c .before .before .before .before .before .before .args in
-    omega (arith, c .before .piece-at .ensures .fits, placed-length (blockOf (start .image .now) (start .container .size)) (start .container .size) (start .m))
+    omega (arith, c .before .piece-at .ensures .fits, placed-length (blockOf (start .image .now) (start .container .size)) (start .container .size) (start .manager))
 
 add-pos : tie.Need-add-pos Inv-loop μ-loop
 add-pos c = omega (arith, fits c)

@@ -33,7 +33,7 @@ returns-2 c =
     let in-block = c .before in
     let in-manager = in-block .before .before in
     let placed = in-manager .before .before in
-    number-in _ _ _ _ _ _ _ _ _ (placed .before .before .quotient .ensures) (placed .remainder .ensures) (placed .before .ring-block .ensures) (sym (in-manager .before .fits2 .ensures) ∙ in-manager .if2 .taken) (sym (in-block .before .fits3 .ensures) ∙ in-block .if3 .taken) (c .number .ensures)
+    number-in _ _ _ _ _ _ _ _ _ (search needs) (placed .before .before .quotient .ensures) (placed .remainder .ensures) (placed .before .ring-block .ensures) (sym (in-manager .before .fits2 .ensures) ∙ in-manager .if2 .taken) (sym (in-block .before .fits3 .ensures) ∙ in-block .if3 .taken) (c .number .ensures)
 
 number-across-requires-2 : tie.Need-number-across-requires-2
 number-across-requires-2 c κs = search needs

@@ -3,7 +3,7 @@ use Prim.Native.Nat.{_+_, _-_, _*_, _^_, _≤_, _<_}
 use native.Mathlib.Omega.{arith}
 use native.Mathlib.Nat.{sub-self, sub-zero, add-zero}
 use borrow.Author.Needs.{needs}
-use Rattle.manager.specs.Place.{bytesOf}
+use Rattle.manager.specs.contracts.Place.{bytesOf}
 use Rattle.fields.specs.Fields.{num}
 use Rattle.fields.proofs.Laws.{num-more, num-none}
 use Rattle.manager.proofs.Laws.{more-fits, room}
@@ -11,10 +11,10 @@ use Rattle.manager.proofs.place.number_across.Statement.{statement}
 use Rattle.manager.proofs.place.number_across.Tie as tie
 
 abbrev Inv-loop : tie.InvT-loop
-Inv-loop image size m off w v₀ k₀ v k = (k ≤ w) × (v ≡ num (w - k) (bytesOf image size m) (off + k)) × (v < 2 ^ (8 * (w - k)))
+Inv-loop image container m off w v₀ k₀ v k = (k ≤ w) × (v ≡ num (w - k) (bytesOf image (container .size) m) (off + k)) × (v < 2 ^ (8 * (w - k)))
 
 abbrev μ-loop : tie.MeasureT-loop
-μ-loop image size m off w v₀ k₀ v k = k
+μ-loop image container m off w v₀ k₀ v k = k
 
 loop-holds : tie.Need-loop-holds Inv-loop μ-loop
 loop-holds c = (search needs, rw sub-self (sym (num-none _ _)), rw sub-self (search needs))
@@ -38,7 +38,7 @@ loop-again : tie.Need-loop-again Inv-loop μ-loop
 loop-again c =
     let l = c .before .before in
     let start = l .before .before .args in
-    (search needs, rw (num-more (bytesOf (start .image .now) (start .size) (start .m)) (start .off) (start .w) (l .loop .k) (c .before .loop-test .taken) (l .loop .inv .0)) (rw (l .loop .inv .1, c .byte-in .ensures .0)), more-fits _ _ _ _ (c .before .loop-test .taken) (l .loop .inv .0) (l .loop .inv .2) (c .byte-in .ensures .1))
+    (search needs, rw (num-more (bytesOf (start .image .now) (start .container .size) (start .manager)) (start .off) (start .width) (l .loop .k) (c .before .loop-test .taken) (l .loop .inv .0)) (rw (l .loop .inv .1, c .byte-in .ensures .0)), more-fits _ _ _ _ (c .before .loop-test .taken) (l .loop .inv .0) (l .loop .inv .2) (c .byte-in .ensures .1))
 
 returns : tie.Need-returns Inv-loop μ-loop
 returns c =

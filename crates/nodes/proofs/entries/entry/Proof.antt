@@ -1,4 +1,4 @@
-use Rattle.nodes.specs.Answers.{slotAs, cutIn, valuedIn}
+use Rattle.nodes.specs.contracts.Answers.{slotAs, partAs, valueAs}
 use Rattle.nodes.proofs.Laws.{entry-no-slot, entry-no-key, entry-no-value, entry-given}
 use mathlib.Core.Path.{sym, ap, _∙_}
 use borrow.Author.Needs.{needs}
@@ -38,19 +38,19 @@ returns c = λ f. sym (entry-no-slot f _ _ _ _ (sym (c .before .before .before .
 returns-2 : tie.Need-returns-2
 returns-2 c =
     let row = c .before .before .before .before .before in
-    λ f. sym (entry-no-key f _ _ _ _ (sym (row .before .before .slot .ensures f) ∙ ap slotAs (row .row2 .given .1)) _ (sym (c .before .before .before .key-of .ensures f) ∙ ap (cutIn _) (c .before .k .given .1)))
+    λ f. sym (entry-no-key f _ _ _ _ (sym (row .before .before .slot .ensures f) ∙ ap slotAs (row .row2 .given .1)) _ (sym (c .before .before .before .key-of .ensures f) ∙ ap (partAs _) (c .before .k .given .1)))
 
 returns-3 : tie.Need-returns-3
 returns-3 c =
     let key = c .before .before .before .before .before in
     let row = key .before .before .before .before in
-    λ f. sym (entry-no-value f _ _ _ _ (sym (row .before .before .slot .ensures f) ∙ ap slotAs (row .row2 .given .1)) _ (sym (key .before .before .key-of .ensures f) ∙ ap (cutIn _) (key .k2 .given .1)) _ (sym (c .before .before .before .value-of .ensures f) ∙ ap (valuedIn _) (c .before .v .given .1)))
+    λ f. sym (entry-no-value f _ _ _ _ (sym (row .before .before .slot .ensures f) ∙ ap slotAs (row .row2 .given .1)) _ (sym (key .before .before .key-of .ensures f) ∙ ap (partAs _) (key .k2 .given .1)) _ (sym (c .before .before .before .value-of .ensures f) ∙ ap (valueAs _) (c .before .v .given .1)))
 
 returns-4 : tie.Need-returns-4
 returns-4 c =
     let key = c .before .before .before .before .before in
     let row = key .before .before .before .before in
-    λ f. sym (entry-given f _ _ _ _ (sym (row .before .before .slot .ensures f) ∙ ap slotAs (row .row2 .given .1)) _ (sym (key .before .before .key-of .ensures f) ∙ ap (cutIn _) (key .k2 .given .1)) _ (sym (c .before .before .before .value-of .ensures f) ∙ ap (valuedIn _) (c .before .v2 .given .1)))
+    λ f. sym (entry-given f _ _ _ _ (sym (row .before .before .slot .ensures f) ∙ ap slotAs (row .row2 .given .1)) _ (sym (key .before .before .key-of .ensures f) ∙ ap (partAs _) (key .k2 .given .1)) _ (sym (c .before .before .before .value-of .ensures f) ∙ ap (valueAs _) (c .before .v2 .given .1)))
 
 pub entry-spec : {M : Type 1} → statement M
 entry-spec =

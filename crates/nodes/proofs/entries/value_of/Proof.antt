@@ -1,4 +1,4 @@
-use Rattle.nodes.specs.Answers.{cutIn}
+use Rattle.nodes.specs.contracts.Answers.{partAs}
 use Rattle.nodes.proofs.Laws.{value-ghost, value-before, value-refused, value-given}
 use native.Mathlib.Omega.{arith}
 use mathlib.Core.Path.{sym, ap, _∙_}
@@ -25,10 +25,10 @@ enum-known-c-2 : tie.Need-enum-known-c-2
 enum-known-c-2 c = search needs
 
 returns-3 : tie.Need-returns-3
-returns-3 c = λ f. sym (value-refused f _ _ (c .before .before .before .before .before .before .before .before .if1 .left) (omega arith) _ (omega arith) _ (sym (c .before .before .before .cut .ensures f) ∙ ap (cutIn _) (c .before .c .given .1)))
+returns-3 c = λ f. sym (value-refused f _ _ (c .before .before .before .before .before .before .before .before .if1 .left) (omega arith) _ (omega arith) _ (sym (c .before .before .before .cut .ensures f) ∙ ap (partAs _) (c .before .c .given .1)))
 
 returns-4 : tie.Need-returns-4
-returns-4 c = λ f. sym (value-given f _ _ (c .before .before .before .before .before .before .before .before .if1 .left) (omega arith) _ (omega arith) _ (sym (c .before .before .before .cut .ensures f) ∙ ap (cutIn _) (c .before .c2 .given .1)))
+returns-4 c = λ f. sym (value-given f _ _ (c .before .before .before .before .before .before .before .before .if1 .left) (omega arith) _ (omega arith) _ (sym (c .before .before .before .cut .ensures f) ∙ ap (partAs _) (c .before .c2 .given .1)))
 
 pub value-of-spec : {M : Type 1} → statement M
 value-of-spec =

@@ -1,4 +1,5 @@
-use Rattle.nodes.specs.Answers.{describedAs, rootAs}
+use Rattle.nodes.specs.contracts.Answers.{descriptionAs}
+use Rattle.blocks.specs.contracts.Answers.{addressAs}
 use Rattle.blocks.specs.Reads.{given}
 use Rattle.nodes.proofs.Laws.{seen-refused, load-unread, load-no-node, load-no-tree, load-given}
 use mathlib.Core.Path.{sym, ap, _∙_}
@@ -37,24 +38,24 @@ enum-told-2 : tie.Need-enum-told-2
 enum-told-2 c = search needs
 
 returns : tie.Need-returns
-returns c = sym (load-unread _ _ _ _ (sym (c .before .before .before .read-object-map .ensures) ∙ ap rootAs (c .before .found .given .1)))
+returns c = sym (load-unread _ _ _ _ (sym (c .before .before .before .read-object-map .ensures) ∙ ap addressAs (c .before .found .given .1)))
 
 returns-2 : tie.Need-returns-2
 returns-2 c =
     let root = c .before .before .before .before .before in
-    sym (load-no-node _ _ _ _ (sym (root .before .before .read-object-map .ensures) ∙ ap rootAs (root .found2 .given .1)) _ (seen-refused _ _ _ (c .before .before .before .read-node .ensures) _ (c .before .seen .given .1)))
+    sym (load-no-node _ _ _ _ (sym (root .before .before .read-object-map .ensures) ∙ ap addressAs (root .found2 .given .1)) _ (seen-refused _ _ _ (c .before .before .before .read-node .ensures) _ (c .before .seen .given .1)))
 
 returns-3 : tie.Need-returns-3
 returns-3 c =
     let told = c .before .before .before .before .before in
     let root = told .before .before .before .before in
-    sym (load-no-tree _ _ _ _ (sym (root .before .before .read-object-map .ensures) ∙ ap rootAs (root .found2 .given .1)) _ (c .before .before .before .before .block .ensures) _ (told .before .before .read-node .ensures) (told .enum-told .given .1) _ (sym (c .before .before .before .describe-map .ensures _) ∙ ap describedAs (c .before .described .given .1)))
+    sym (load-no-tree _ _ _ _ (sym (root .before .before .read-object-map .ensures) ∙ ap addressAs (root .found2 .given .1)) _ (c .before .before .before .before .block .ensures) _ (told .before .before .read-node .ensures) (told .enum-told .given .1) _ (sym (c .before .before .before .describe-map .ensures _) ∙ ap descriptionAs (c .before .described .given .1)))
 
 returns-4 : tie.Need-returns-4
 returns-4 c =
     let told = c .before .before .before .before in
     let root = told .before .before .before .before in
-    sym (load-given _ _ _ _ (sym (root .before .before .read-object-map .ensures) ∙ ap rootAs (root .found2 .given .1)) _ (c .before .before .before .block .ensures) _ (told .before .before .read-node .ensures) (told .enum-told .given .1) _ (sym (c .before .before .describe-map .ensures _) ∙ ap describedAs (c .enum-told2 .given .1)))
+    sym (load-given _ _ _ _ (sym (root .before .before .read-object-map .ensures) ∙ ap addressAs (root .found2 .given .1)) _ (c .before .before .before .block .ensures) _ (told .before .before .read-node .ensures) (told .enum-told .given .1) _ (sym (c .before .before .describe-map .ensures _) ∙ ap descriptionAs (c .enum-told2 .given .1)))
 
 pub load-object-map-spec : {M : Type 1} → statement M
 load-object-map-spec =

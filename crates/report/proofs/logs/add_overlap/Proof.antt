@@ -9,11 +9,11 @@ returns : tie.Need-returns
 unfolding addOverlap
 returns c = count-refused _ _ _ (c .if1 .taken)
 
-mul-o : tie.Need-mul-o
-mul-o c = search needs
+mul-overlap : tie.Need-mul-overlap
+mul-overlap c = search needs
 
-element-set-from-o : tie.Need-element-set-from-o
-element-set-from-o c = search needs
+element-set-from-overlap : tie.Need-element-set-from-overlap
+element-set-from-overlap c = search needs
 
 add-next : tie.Need-add-next
 add-next c = search needs
@@ -23,4 +23,4 @@ unfolding addOverlap
 returns-2 c = count-more _ _ _ (search needs) (⊎-elim (λ w. rw (w .1, note-room _ _ _ (w .0 .taken))) (λ w. rw (w .1, note-full _ _ _ (w .0 .left))) (c .if2 .came)) _
 
 pub add-overlap-spec : {M : Type 1} → statement M
-add-overlap-spec = tie.close (tie.spec returns mul-o element-set-from-o add-next returns-2)
+add-overlap-spec = tie.close (tie.spec returns mul-overlap element-set-from-overlap add-next returns-2)

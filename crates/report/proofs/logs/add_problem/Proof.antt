@@ -9,11 +9,11 @@ returns : tie.Need-returns
 unfolding addProblem
 returns c = count-refused _ _ _ (c .if1 .taken)
 
-mul-p : tie.Need-mul-p
-mul-p c = search needs
+mul-problem : tie.Need-mul-problem
+mul-problem c = search needs
 
-element-set-from-p : tie.Need-element-set-from-p
-element-set-from-p c = search needs
+element-set-from-problem : tie.Need-element-set-from-problem
+element-set-from-problem c = search needs
 
 add-next : tie.Need-add-next
 add-next c = search needs
@@ -23,4 +23,4 @@ unfolding addProblem
 returns-2 c = count-more _ _ _ (search needs) (⊎-elim (λ w. rw (w .1, note-room _ _ _ (w .0 .taken))) (λ w. rw (w .1, note-full _ _ _ (w .0 .left))) (c .if2 .came)) _
 
 pub add-problem-spec : {M : Type 1} → statement M
-add-problem-spec = tie.close (tie.spec returns mul-p element-set-from-p add-next returns-2)
+add-problem-spec = tie.close (tie.spec returns mul-problem element-set-from-problem add-next returns-2)

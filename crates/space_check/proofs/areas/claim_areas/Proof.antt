@@ -1,75 +1,67 @@
-use borrow.Author.Needs.{needs}
+use Rattle.blocks.specs.Reads.{run}
+use Rattle.space_check.proofs.PassLaws.{areas-end, areas-turn, areas-run}
+use Rattle.trees.proofs.VisitLaws.{same-run}
+use Rattle.report.proofs.StepLaws.{Left, left-first, left-on, left-refused, left-kept, left-done, moves-past, past-on, ending-is}
+use Rattle.report.specs.declared.Ending.{Ending}
+use Rattle.report.specs.contracts.Steps.{pastOf}
+use Rattle.blocks.specs.Reads.{run}
+use Prim.Native.Nat.{ℕ, _+_, _-_, _≤_}
 use native.Mathlib.Omega.{arith}
-use Prim.Native.Nat.{_+_, _-_, _≤_}
-use mathlib.Core.Path.{refl}
+use mathlib.Core.Path.{refl, ap}
+use borrow.Author.Needs.{needs}
+use Rattle.space_check.specs.contracts.Stages.{areasFrom}
+use Rattle.claims.specs.contracts.Answers.{owned}
+use Rattle.manager.specs.contracts.Place.{placed}
+use Rattle.report.proofs.StepLaws.{Left, left-first}
 use Rattle.blocks.specs.Blocks.{blockOf}
-use Rattle.trees.proofs.VisitLaws.{claimed-step}
-use Rattle.audit.proofs.Laws.{Reached, reached-first, reached-done, reached-more, reached-stop}
-use Rattle.manager.specs.Place.{bytesOf}
-use Rattle.claims.specs.Answers.{owned}
-use Rattle.claims.specs.Claims.{containerSuperblock}
-use Rattle.space_check.specs.Stages.{areasFrom, areas}
-use Rattle.space_check.proofs.PassLaws.{areas-end, areas-turn}
+use Prim.Native.Nat.{_-_, _≤_}
 use Rattle.space_check.proofs.areas.claim_areas.Statement.{statement}
 use Rattle.space_check.proofs.areas.claim_areas.Tie as tie
-use Rattle.space_check.proofs.areas.claim_areas.Reads as reads
-use Rattle.space_check.proofs.areas.claim_areas.Lts as lts
-use Rattle.claims.proofs.claim.Reads as claim-reads
-use Rattle.space_check.proofs.areas.area_of.Reads as area-of-reads
 
 abbrev Inv-loop : tie.InvT-loop
-Inv-loop image map₀ k m container found₀ kind₀ map found kind = (kind ≤ 7) × Reached (blockOf image (k .container .size)) (k .container .count) map₀ map (areasFrom (blockOf image (k .container .size)) k (bytesOf image (k .container .size) m) (7 - kind) kind (owned map found)) (areasFrom (blockOf image (k .container .size)) k (bytesOf image (k .container .size) m) areas containerSuperblock (owned map₀ found₀))
+Inv-loop image map₀ manager container sb found₀ kind₀ map found kind = (kind ≤ 7) × Left (blockOf image (container .size)) (container .count) (record { next = 1; left = 6 }) (record { next = kind; left = 7 - kind }) (owned map₀ found₀) (owned map found) (λ to. areasFrom container sb (placed (blockOf image (container .size)) (container .size) manager) (to .left) (to .next))
 
 abbrev μ-loop : tie.MeasureT-loop
-μ-loop image map₀ k m container found₀ kind₀ map found kind = 7 - kind
+μ-loop image map₀ manager container sb found₀ kind₀ map found kind = 7 - kind
 
--- src/areas.rt:104:5
+block-requires : tie.Need-block-requires Inv-loop μ-loop
+block-requires c κs = search needs
+
 loop-holds : tie.Need-loop-holds Inv-loop μ-loop
-loop-holds c = (search needs, reached-first _ _ _ _ _ refl)
+loop-holds c = (search needs, left-first _ _ _ _ _)
 
--- src/areas.rt:105:13
 area-of-requires : tie.Need-area-of-requires Inv-loop μ-loop
 area-of-requires c κs = search needs
 
--- src/areas.rt:106:13
 claim-requires : tie.Need-claim-requires Inv-loop μ-loop
 claim-requires c κs = search needs
 
--- src/areas.rt:109:33
 enum-told : tie.Need-enum-told Inv-loop μ-loop
 enum-told c = search needs
 
--- src/areas.rt:109:33
-returns : tie.Need-returns Inv-loop μ-loop
-returns c = reached-stop (c .before .before .before .before .before .before .before .before .loop .inv .1) (claimed-step _ (c .before .before .before .before .claim .ensures)) _ (areas-turn _ (c .before .before .before .before .before .before .before .before .before .before .before .before .args .k) _ _ _ (c .before .before .before .before .before .before .before .loop-test .taken) _ (c .before .before .before .before .before .before .area-of .ensures)) _ _ (c .enum-told .given .1)
-
--- src/areas.rt:109:33
 same-length : tie.Need-same-length Inv-loop μ-loop
-same-length c = returns c .kept .long
+same-length c = left-kept (c .before .before .before .before .before .before .before .before .loop .inv .1) (moves-past (c .before .before .before .before .claim .ensures _) (record { next = c .before .before .before .before .before .before .before .before .loop .kind; left = 7 - c .before .before .before .before .before .before .before .before .loop .kind }) _ _ refl (omega arith) (omega arith) (ap (run _) (areas-turn _ _ _ _ _ _ (omega arith) (omega arith) _ refl _ (c .before .before .before .before .before .before .area-of .ensures)))) .long
 
--- src/areas.rt:111:17
+returns : tie.Need-returns Inv-loop μ-loop
+returns c = same-run _ (ending-is _ _ (c .enum-told .given .1) (left-refused (c .before .before .before .before .before .before .before .before .loop .inv .1) (moves-past (c .before .before .before .before .claim .ensures _) (record { next = c .before .before .before .before .before .before .before .before .loop .kind; left = 7 - c .before .before .before .before .before .before .before .before .loop .kind }) _ _ refl (omega arith) (omega arith) (ap (run _) (areas-turn _ _ _ _ _ _ (omega arith) (omega arith) _ refl _ (c .before .before .before .before .before .before .area-of .ensures)))) _ _ (ap (λ (e : Ending). pastOf e (record { next = c .before .before .before .before .before .before .before .before .loop .kind; left = 7 - c .before .before .before .before .before .before .before .before .loop .kind })) (c .enum-told .given .1)))) (rw (c .before .before .before .before .before .before .before .before .before .block .ensures) (areas-run _ _ _ _ _ _))
+
 enum-told-2 : tie.Need-enum-told-2 Inv-loop μ-loop
 enum-told-2 c = search needs
 
--- src/areas.rt:112:17
 add-kind : tie.Need-add-kind Inv-loop μ-loop
 add-kind c = search needs
 
--- src/areas.rt:104:5
 loop-less : tie.Need-loop-less Inv-loop μ-loop
 loop-less c = search needs
 
--- src/areas.rt:104:5
 loop-again : tie.Need-loop-again Inv-loop μ-loop
-loop-again c = (search needs, reached-more (c .before .before .before .before .before .before .before .before .before .loop .inv .1) (claimed-step _ (c .before .before .before .before .before .claim .ensures)) _ (areas-turn _ (c .before .before .before .before .before .before .before .before .before .before .before .before .before .args .k) _ _ _ (c .before .before .before .before .before .before .before .before .loop-test .taken) _ (c .before .before .before .before .before .before .before .area-of .ensures)) (c .before .enum-told2 .given .1))
+loop-again c = (search needs, left-on (c .before .before .before .before .before .before .before .before .before .loop .inv .1) (moves-past (c .before .before .before .before .before .claim .ensures _) (record { next = c .before .before .before .before .before .before .before .before .before .loop .kind; left = 7 - c .before .before .before .before .before .before .before .before .before .loop .kind }) _ _ refl (omega arith) (omega arith) (ap (run _) (areas-turn _ _ _ _ _ _ (omega arith) (omega arith) _ refl _ (c .before .before .before .before .before .before .before .area-of .ensures)))) _ (past-on _ _ _ (c .before .enum-told2 .given .1) (ap (λ (n : ℕ). record { next = c .before .before .before .before .before .before .before .before .before .loop .kind + 1; left = n }) (omega arith)) (omega arith)))
 
--- src/areas.rt:92:1
 same-length-2 : tie.Need-same-length-2 Inv-loop μ-loop
 same-length-2 c = c .before .loop .inv .1 .kept .long
 
--- src/areas.rt:92:1
 returns-2 : tie.Need-returns-2 Inv-loop μ-loop
-returns-2 c = reached-done (c .before .loop .inv .1) _ (areas-end _ (c .before .before .before .before .before .args .k) _ _ _ (omega arith))
+returns-2 c = same-run _ (left-done (c .before .loop .inv .1) (areas-end _ _ _ _ _ _ (omega arith))) (rw (c .before .before .block .ensures) (areas-run _ _ _ _ _ _))
 
 pub claim-areas-spec : {M : Type 1} → statement M
 claim-areas-spec =
@@ -77,6 +69,7 @@ claim-areas-spec =
     (tie.spec
     Inv-loop
     μ-loop
+    block-requires
     loop-holds
     area-of-requires
     claim-requires

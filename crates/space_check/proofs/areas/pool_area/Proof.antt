@@ -1,35 +1,25 @@
+use Rattle.space_check.specs.contracts.Stages.{poolArea}
 use borrow.Author.Tests.{eq-eqb, ne-eqb}
-use Rattle.space_check.specs.Stages.{poolArea}
 use borrow.Author.Needs.{needs}
 use Rattle.space_check.proofs.areas.pool_area.Statement.{statement}
 use Rattle.space_check.proofs.areas.pool_area.Tie as tie
-use Rattle.space_check.proofs.areas.pool_area.Reads as reads
-use Rattle.space_check.proofs.areas.pool_area.Lts as lts
-use Rattle.manager.proofs.place.u32_of.Reads as u32-of-reads
-use Rattle.manager.proofs.place.u64_of.Reads as u64-of-reads
 
--- src/areas.rt:56:20
 u64-of-requires : tie.Need-u64-of-requires
 u64-of-requires c κs = search needs
 
--- src/areas.rt:57:18
 u64-of-requires-2 : tie.Need-u64-of-requires-2
 u64-of-requires-2 c κs = search needs
 
--- src/areas.rt:55:9
 returns : tie.Need-returns
 unfolding poolArea
 returns c = rw (c .before .u64-of .ensures .is, c .u64-of2 .ensures .is) (simp (eq-eqb _ _ (c .before .before .if1 .taken)))
 
--- src/areas.rt:61:16
 u64-of-requires-3 : tie.Need-u64-of-requires-3
 u64-of-requires-3 c κs = search needs
 
--- src/areas.rt:62:14
 u32-of-requires : tie.Need-u32-of-requires
 u32-of-requires c κs = search needs
 
--- src/areas.rt:51:1
 returns-2 : tie.Need-returns-2
 unfolding poolArea
 returns-2 c = rw (c .before .u64-of3 .ensures .is, c .u32-of .ensures .is) (simp (ne-eqb _ _ (c .before .before .if1 .left)))

@@ -1,62 +1,67 @@
-use Rattle.audit.proofs.Laws.{step-then, step-stop}
-use Rattle.space_check.specs.Stages.{objectsFor}
+use Rattle.blocks.specs.Blocks.{blockOf}
+use Rattle.space_check.proofs.PassLaws.{objects-undescribed, objects-described}
+use Rattle.trees.proofs.ReadLaws.{walk-read}
+use Rattle.trees.proofs.VisitLaws.{same-run}
+use Rattle.report.proofs.StepLaws.{stays-refused, step-then, step-stop, stepped-done}
+use Rattle.nodes.specs.contracts.Answers.{descriptionAs}
+use mathlib.Core.Path.{sym, ap, _∙_}
 use borrow.Author.Needs.{needs}
 use Rattle.space_check.proofs.audits.claim_objects.Statement.{statement}
 use Rattle.space_check.proofs.audits.claim_objects.Tie as tie
-use Rattle.space_check.proofs.audits.claim_objects.Reads as reads
-use Rattle.space_check.proofs.audits.claim_objects.Lts as lts
-use Rattle.manager.proofs.place.u64_of.Reads as u64-of-reads
-use Rattle.space_check.proofs.audits.claim_nodes.Reads as claim-nodes-reads
-use Rattle.trees.proofs.queues.claim_queue.Reads as claim-queue-reads
 
--- src/audits.rt:102:9
-claim-nodes-requires : tie.Need-claim-nodes-requires
-claim-nodes-requires c κs = search needs
+block-requires : tie.Need-block-requires
+block-requires c κs = search needs
 
--- src/audits.rt:105:29
+describe-requires : tie.Need-describe-requires
+describe-requires c κs = search needs
+
+enum-known-described : tie.Need-enum-known-described
+enum-known-described c = search needs
+
+enum-known-described-2 : tie.Need-enum-known-described-2
+enum-known-described-2 c = search needs
+
+walk-requires : tie.Need-walk-requires
+walk-requires c κs = c .before .before .before .before .before .before .before .before .before .pre
+
 enum-told : tie.Need-enum-told
 enum-told c = search needs
 
--- src/audits.rt:107:17
 enum-told-2 : tie.Need-enum-told-2
 enum-told-2 c = search needs
 
--- src/audits.rt:109:34
-u64-of-requires : tie.Need-u64-of-requires
-u64-of-requires c κs = search needs
+claim-mappings-requires : tie.Need-claim-mappings-requires
+claim-mappings-requires c κs = walk-read _ _ _ _ _ _ _ (stepped-done (c .before .before .before .before .before .before .walk .ensures) (c .before .before .enum-told2 .given .1))
 
--- src/audits.rt:110:13
-claim-queue-requires : tie.Need-claim-queue-requires
-claim-queue-requires c κs = search needs
-
--- src/audits.rt:95:1
-same-length : tie.Need-same-length
-same-length c = c .before .before .before .before .claim-nodes .ensures .kept .long
-
--- src/audits.rt:95:1
 returns : tie.Need-returns
-unfolding objectsFor
-returns c = step-stop (c .before .before .before .before .claim-nodes .ensures) _ _ _ (c .enum-told .given .1)
+returns c = stays-refused _ _ _ _ (objects-undescribed _ _ _ _ _ _ _ (c .before .before .before .before .before .before .before .before .pre) _ (sym (rw (c .before .before .before .before .block .ensures) at (c .before .before .before .describe .ensures (blockOf (c .before .before .before .before .before .before .before .before .args .image .now) (c .before .before .before .before .before .before .before .before .args .checkpoint .container .size)))) ∙ ap descriptionAs (c .before .described .given .1)))
 
--- src/audits.rt:95:1
+same-length : tie.Need-same-length
+same-length c = c .before .before .before .before .walk .ensures .kept .long
+
+returns-2 : tie.Need-returns-2
+returns-2 c = same-run _ (step-stop (c .before .before .before .before .walk .ensures) _ _ _ (c .enum-told .given .1)) (sym (objects-described _ _ _ _ _ _ _ (c .before .before .before .before .before .before .before .before .before .before .before .before .before .before .pre) _ (sym (rw (c .before .before .before .before .before .before .before .before .before .before .block .ensures) at (c .before .before .before .before .before .before .before .before .before .describe .ensures (blockOf (c .before .before .before .before .before .before .before .before .before .before .before .before .before .before .args .image .now) (c .before .before .before .before .before .before .before .before .before .before .before .before .before .before .args .checkpoint .container .size)))) ∙ ap descriptionAs (c .before .before .before .before .before .before .before .described2 .given .1))))
+
 same-length-2 : tie.Need-same-length-2
 same-length-2 c = search needs
 
--- src/audits.rt:95:1
-returns-2 : tie.Need-returns-2
-unfolding objectsFor
-returns-2 c = step-then (c .before .before .before .before .before .before .before .before .before .before .before .claim-nodes .ensures) _ (c .before .before .before .before .before .before .before .enum-told2 .given .1) (rw (c .before .before .before .before .u64-of .ensures .is) at (c .before .before .claim-queue .ensures))
+returns-3 : tie.Need-returns-3
+returns-3 c = same-run _ (step-then (c .before .before .before .before .before .before .before .before .before .walk .ensures) _ (c .before .before .before .before .before .enum-told2 .given .1) (c .before .before .claim-mappings .ensures)) (sym (objects-described _ _ _ _ _ _ _ (c .before .before .before .before .before .before .before .before .before .before .before .before .before .before .before .before .before .before .before .pre) _ (sym (rw (c .before .before .before .before .before .before .before .before .before .before .before .before .before .before .before .block .ensures) at (c .before .before .before .before .before .before .before .before .before .before .before .before .before .before .describe .ensures (blockOf (c .before .before .before .before .before .before .before .before .before .before .before .before .before .before .before .before .before .before .before .args .image .now) (c .before .before .before .before .before .before .before .before .before .before .before .before .before .before .before .before .before .before .before .args .checkpoint .container .size)))) ∙ ap descriptionAs (c .before .before .before .before .before .before .before .before .before .before .before .before .described2 .given .1))))
 
 pub claim-objects-spec : {M : Type 1} → statement M
 claim-objects-spec =
     tie.close
     (tie.spec
-    claim-nodes-requires
+    block-requires
+    describe-requires
+    enum-known-described
+    enum-known-described-2
+    walk-requires
     enum-told
     enum-told-2
-    u64-of-requires
-    claim-queue-requires
-    same-length
+    claim-mappings-requires
     returns
+    same-length
+    returns-2
     same-length-2
-    returns-2)
+    returns-3)

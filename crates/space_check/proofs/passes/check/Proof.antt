@@ -1,46 +1,33 @@
-use mathlib.Core.Path.{sym, ap, _∙_}
-use Rattle.checkpoint.specs.Answers.{openedAs}
 use Rattle.space_check.proofs.CheckLaws.{check-refused, check-opened, opened-ready}
+use Rattle.checkpoint.specs.contracts.Answers.{geometryAs}
+use mathlib.Core.Path.{sym, ap, _∙_}
 use borrow.Author.Needs.{needs}
 use Rattle.space_check.proofs.passes.check.Statement.{statement}
 use Rattle.space_check.proofs.passes.check.Tie as tie
-use Rattle.space_check.proofs.passes.check.Reads as reads
-use Rattle.space_check.proofs.passes.check.Lts as lts
-use Rattle.checkpoint.proofs.block_zero.geometry.Reads as geometry-reads
-use Rattle.report.proofs.answers.refusal.Reads as refusal-reads
-use Rattle.space_check.proofs.passes.check_in.Reads as check-in-reads
 
--- src/passes.rt:78:9
 geometry-requires : tie.Need-geometry-requires
 geometry-requires c κs = search needs
 
--- src/passes.rt:80:25
 enum-known-opened : tie.Need-enum-known-opened
 enum-known-opened c = search needs
 
--- src/passes.rt:80:31
 refusal-requires : tie.Need-refusal-requires
 refusal-requires c κs = search needs
 
--- src/passes.rt:81:20
 enum-known-opened-2 : tie.Need-enum-known-opened-2
 enum-known-opened-2 c = search needs
 
--- src/passes.rt:81:26
 check-in-requires : tie.Need-check-in-requires
-check-in-requires c κs = opened-ready _ (c .before .before .before .before .before .before .before .args .map .now) _ (sym (c .before .before .before .before .geometry .ensures) ∙ ap openedAs (c .before .before .opened2 .given .1))
+check-in-requires c κs = opened-ready _ (c .before .before .before .before .before .before .before .args .map .now) _ (sym (c .before .before .before .before .geometry .ensures) ∙ ap geometryAs (c .before .before .opened2 .given .1))
 
--- src/passes.rt:75:1
 returns : tie.Need-returns
-returns c = check-refused _ _ _ (sym (c .before .before .before .before .geometry .ensures) ∙ ap openedAs (c .before .before .opened .given .1)) _ (c .refusal .ensures)
+returns c = check-refused _ _ _ (sym (c .before .before .before .before .geometry .ensures) ∙ ap geometryAs (c .before .before .opened .given .1)) _ (c .refusal .ensures)
 
--- src/passes.rt:75:1
 same-length : tie.Need-same-length
 same-length c = search needs
 
--- src/passes.rt:75:1
 returns-2 : tie.Need-returns-2
-returns-2 c = c .before .before .check-in .ensures ∙ sym (check-opened _ (c .before .before .before .before .before .before .before .before .before .before .args .map .now) _ (sym (c .before .before .before .before .before .before .before .geometry .ensures) ∙ ap openedAs (c .before .before .before .before .before .opened2 .given .1)))
+returns-2 c = c .before .before .check-in .ensures ∙ sym (check-opened _ (c .before .before .before .before .before .before .before .before .before .before .args .map .now) _ (sym (c .before .before .before .before .before .before .before .geometry .ensures) ∙ ap geometryAs (c .before .before .before .before .before .opened2 .given .1)))
 
 pub check-spec : {M : Type 1} → statement M
 check-spec =

@@ -6,8 +6,8 @@ use mathlib.Core.List.{List, []}
 use mathlib.Core.Path.{_≡_, refl, sym, ap, _∙_}
 use Rattle.blocks.specs.Reads.{noBlocks}
 use Rattle.nodes.specs.Node.{keyCount}
-use Rattle.nodes.specs.Answers.{pointerAs}
-use Rattle.trees.specs.Walks.{pointersDown}
+use Rattle.blocks.specs.contracts.Answers.{numberAs}
+use Rattle.trees.specs.contracts.Walks.{pointersDown}
 use Rattle.trees.proofs.WalkLaws.{childrenLeft, children-done, children-refused, children-more}
 use Rattle.trees.proofs.children.children_there.Statement.{statement}
 use Rattle.trees.proofs.children.children_there.Tie as tie
@@ -23,7 +23,7 @@ abbrev μ-loop : tie.MeasureT-loop
 μ-loop node d n i₀ i = n - i
 
 -- what is left at the loop's head is the whole
-whole : (c : lts.At-loop (key-count-reads.Asked, key-count-reads.Learnt, pointer-of-reads.Asked, pointer-of-reads.Learnt) reads.Pre reads.Post Inv-loop μ-loop) (f : ℕ → List ℕ) → let a = c .before .before .before .args in childrenLeft f (a .d) (a .node .now) (c .before .key-count .result - c .loop .i) (c .loop .i) (pointersDown (a .d) (a .node .now) (c .loop .i)) ≡ childrenLeft f (a .d) (a .node .now) (keyCount (a .node .now)) 0 []
+whole : (c : lts.At-loop (key-count-reads.Asked, key-count-reads.Learnt, pointer-of-reads.Asked, pointer-of-reads.Learnt) reads.Pre reads.Post Inv-loop μ-loop) (f : ℕ → List ℕ) → let a = c .before .before .before .args in childrenLeft f (a .description) (a .node .now) (c .before .key-count .result - c .loop .i) (c .loop .i) (pointersDown (a .description) (a .node .now) (c .loop .i)) ≡ childrenLeft f (a .description) (a .node .now) (keyCount (a .node .now)) 0 []
 whole c f = c .loop .inv .1 f ∙ rw (c .before .key-count .ensures .0) refl
 
 key-count-requires : tie.Need-key-count-requires Inv-loop μ-loop
@@ -40,7 +40,7 @@ enum-known-pointer : tie.Need-enum-known-pointer Inv-loop μ-loop
 enum-known-pointer c = search needs
 
 returns : tie.Need-returns Inv-loop μ-loop
-returns c = λ f. sym (children-refused f _ _ _ _ (c .before .before .before .before .loop-test .taken) _ (sym (c .before .before .before .pointer-of .ensures f) ∙ ap pointerAs (c .before .pointer .given .1))) ∙ whole (c .before .before .before .before .before) f
+returns c = λ f. sym (children-refused f _ _ _ _ (c .before .before .before .before .loop-test .taken) _ (sym (c .before .before .before .pointer-of .ensures f) ∙ ap numberAs (c .before .pointer .given .1))) ∙ whole (c .before .before .before .before .before) f
 
 enum-told : tie.Need-enum-told Inv-loop μ-loop
 enum-told c = search needs
@@ -52,7 +52,7 @@ loop-less : tie.Need-loop-less Inv-loop μ-loop
 loop-less c = search needs
 
 loop-again : tie.Need-loop-again Inv-loop μ-loop
-loop-again c = (search needs, λ f. sym (children-more f _ _ _ _ (c .before .before .before .loop-test .taken) _ (sym (c .before .before .pointer-of .ensures f) ∙ ap pointerAs (c .enum-told .given .1)) (sym (c .before .before .pointer-of .ensures noBlocks) ∙ ap pointerAs (c .enum-told .given .1))) ∙ c .before .before .before .before .loop .inv .1 f)
+loop-again c = (search needs, λ f. sym (children-more f _ _ _ _ (c .before .before .before .loop-test .taken) _ (sym (c .before .before .pointer-of .ensures f) ∙ ap numberAs (c .enum-told .given .1)) (sym (c .before .before .pointer-of .ensures noBlocks) ∙ ap numberAs (c .enum-told .given .1))) ∙ c .before .before .before .before .loop .inv .1 f)
 
 returns-2 : tie.Need-returns-2 Inv-loop μ-loop
 returns-2 c = λ f. (rw (c .before .before .key-count .ensures .0) refl) ∙ sym (children-done f _ _ _ _ (omega arith)) ∙ whole (c .before) f

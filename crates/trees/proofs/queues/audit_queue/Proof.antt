@@ -1,9 +1,9 @@
-use mathlib.Core.Path.{refl}
-use Rattle.trees.specs.declared.Figures.{Figures}
-use Rattle.audit.specs.declared.Audit.{Audit}
 use Rattle.trees.proofs.QueueLaws.{audit-queue}
 use Rattle.trees.proofs.ReadLaws.{pool-queue-else}
 use Rattle.trees.proofs.VisitLaws.{narrower}
+use Rattle.trees.specs.declared.Figures.{Figures}
+use Rattle.audit.specs.declared.Audit.{Audit}
+use mathlib.Core.Path.{refl}
 use borrow.Author.Needs.{needs}
 use Rattle.trees.proofs.queues.audit_queue.Statement.{statement}
 use Rattle.trees.proofs.queues.audit_queue.Tie as tie

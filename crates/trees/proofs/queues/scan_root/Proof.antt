@@ -1,7 +1,7 @@
+use Rattle.trees.proofs.QueueLaws.{queue-child, root-undescribed, root-described}
+use Rattle.trees.proofs.VisitLaws.{visit-refused, same-run}
+use Rattle.nodes.specs.contracts.Answers.{descriptionAs}
 use mathlib.Core.Path.{sym, ap, _∙_}
-use Rattle.nodes.specs.Answers.{describedAs}
-use Rattle.trees.proofs.QueueLaws.{root-undescribed, root-described}
-use Rattle.trees.proofs.VisitLaws.{same-run, visit-refused}
 use borrow.Author.Needs.{needs}
 use Rattle.trees.proofs.queues.scan_root.Statement.{statement}
 use Rattle.trees.proofs.queues.scan_root.Tie as tie
@@ -25,13 +25,13 @@ scan-requires : tie.Need-scan-requires
 scan-requires c κs = λ p. absurd (c .before .before .before .before .before .before .before .before .before .pre p)
 
 returns : tie.Need-returns
-returns c = visit-refused _ _ _ _ _ (c .refused .ensures) (rw (← c .before .before .before .before .before .block .ensures) (root-undescribed _ _ _ _ _ _ _ (sym (c .before .before .before .before .describe .ensures _) ∙ ap describedAs (c .before .before .described .given .1))))
+returns c = visit-refused _ _ _ _ _ (c .refused .ensures) (rw (← c .before .before .before .before .before .block .ensures) (root-undescribed _ _ _ _ _ _ _ (sym (c .before .before .before .before .describe .ensures _) ∙ ap descriptionAs (c .before .before .described .given .1))))
 
 same-length : tie.Need-same-length
 same-length c = c .before .before .scan .ensures .kept .long
 
 returns-2 : tie.Need-returns-2
-returns-2 c = same-run _ (c .before .before .scan .ensures) (rw (← c .before .before .before .before .before .before .before .before .block .ensures) (sym (root-described _ _ _ _ _ _ _ (sym (c .before .before .before .before .before .before .before .describe .ensures _) ∙ ap describedAs (c .before .before .before .before .before .described2 .given .1)))))
+returns-2 c = same-run _ (c .before .before .scan .ensures) (rw (queue-child _ _ _ (c .before .before .before .before .before .before .before .before .before .before .before .before .pre), ← c .before .before .before .before .before .before .before .before .block .ensures) (sym (root-described _ _ _ _ _ _ _ (sym (c .before .before .before .before .before .before .before .describe .ensures _) ∙ ap descriptionAs (c .before .before .before .before .before .described2 .given .1)))))
 
 pub scan-root-spec : {M : Type 1} → statement M
 scan-root-spec =

@@ -1,12 +1,13 @@
+use mathlib.Core.Path.{refl}
 use borrow.Author.Needs.{needs}
 use Rattle.trees.proofs.queues.unaudited.Statement.{statement}
 use Rattle.trees.proofs.queues.unaudited.Tie as tie
 
-no-problems-requires : tie.Need-no-problems-requires
-no-problems-requires c κs = search needs
+nothing-audited-requires : tie.Need-nothing-audited-requires
+nothing-audited-requires c κs = search needs
 
 returns : tie.Need-returns
-returns c = rw (c .no-problems .ensures)
+returns c = rw (c .nothing-audited .ensures) refl
 
 pub unaudited-spec : {M : Type 1} → statement M
-unaudited-spec = tie.close (tie.spec no-problems-requires returns)
+unaudited-spec = tie.close (tie.spec nothing-audited-requires returns)

@@ -1,22 +1,23 @@
-use mathlib.Core.Path.{sym, ap, _∙_}
 use borrow.Author.Needs.{needs}
-use Rattle.nodes.specs.Answers.{entryIn}
-use Prim.Native.Nat.{_-_}
-use native.Mathlib.Omega.{arith}
+use Rattle.trees.proofs.UnloggedLaws.{leaf-on}
+use Rattle.trees.specs.contracts.Answers.{leafOf}
+use Rattle.report.proofs.StepLaws.{unlogged-first, unlogged-more}
+use Rattle.report.specs.contracts.Steps.{MovesUnlogged, Within}
+use Rattle.nodes.specs.contracts.Answers.{entryAs}
 use Rattle.blocks.specs.Blocks.{blockOf}
-use Rattle.trees.specs.Answers.{LeafTo}
-use Rattle.trees.proofs.UnloggedLaws.{leaf-from, leaf-on, leaf-stay}
+use native.Mathlib.Omega.{arith}
+use mathlib.Core.Path.{refl, sym, ap, _∙_}
 use Rattle.trees.proofs.scans.leaf_unlogged.Statement.{statement}
 use Rattle.trees.proofs.scans.leaf_unlogged.Tie as tie
 
 abbrev Inv-loop : tie.InvT-loop
-Inv-loop image map₀ t node i n d k₀ map k = LeafTo (blockOf image (t .checkpoint .container .size)) t node n i k map₀ map
+Inv-loop image map₀ tree node description at₀ map at = Within at₀ × MovesUnlogged (blockOf image (tree .checkpoint .container .size)) (tree .checkpoint .container .count) at₀ at map₀ map (leafOf (blockOf image (tree .checkpoint .container .size)) tree node)
 
 abbrev μ-loop : tie.MeasureT-loop
-μ-loop image map₀ t node i n d k₀ map k = n - k
+μ-loop image map₀ tree node description at₀ map at = at .left
 
 loop-holds : tie.Need-loop-holds Inv-loop μ-loop
-loop-holds c = leaf-from _ _ _ _ _ _ (omega arith)
+loop-holds c = (c .before .before .before .before .pre, unlogged-first _ _ _ _ _)
 
 entry-requires : tie.Need-entry-requires Inv-loop μ-loop
 entry-requires c κs = search needs
@@ -25,37 +26,40 @@ enum-told : tie.Need-enum-told Inv-loop μ-loop
 enum-told c = search needs
 
 same-length : tie.Need-same-length Inv-loop μ-loop
-same-length c = c .before .before .before .before .loop .inv .kept .long
+same-length c = c .before .before .before .before .before .loop .inv .1 .kept .long
 
 returns : tie.Need-returns Inv-loop μ-loop
-returns c = c .before .before .before .before .loop .inv
+returns c = c .before .before .before .before .before .loop .inv .1
 
-enum-known-located : tie.Need-enum-known-located Inv-loop μ-loop
-enum-known-located c = search needs
+enum-known-found : tie.Need-enum-known-found Inv-loop μ-loop
+enum-known-found c = search needs
 
 visit-unlogged-requires : tie.Need-visit-unlogged-requires Inv-loop μ-loop
 visit-unlogged-requires c κs = search needs
 
-add-k : tie.Need-add-k Inv-loop μ-loop
-add-k c = search needs
+add-next : tie.Need-add-next Inv-loop μ-loop
+add-next c = search needs
+
+sub-left : tie.Need-sub-left Inv-loop μ-loop
+sub-left c = search needs
 
 loop-less : tie.Need-loop-less Inv-loop μ-loop
-loop-less c = search needs
+loop-less c = omega arith
 
 loop-again : tie.Need-loop-again Inv-loop μ-loop
-loop-again c = let visited = c .before .before .before in let at = visited .before .before .before in leaf-on _ _ _ _ _ _ _ _ _ (at .before .before .before .before .loop .inv) _ _ (visited .visit-unlogged .ensures) (at .before .before .before .loop-test .taken) (sym (at .before .before .entry .ensures _) ∙ ap (entryIn _) (at .located .given .1)) (c .if1 .taken)
-
-returns-2 : tie.Need-returns-2 Inv-loop μ-loop
-returns-2 c = let visited = c .before .before .before in leaf-stay _ _ _ _ _ _ _ _ _ (visited .before .before .before .before .before .before .before .loop .inv) _ _ (visited .visit-unlogged .ensures) (c .if1 .left)
+loop-again c = (c .before .before .before .before .before .before .before .before .before .before .before .before .before .loop .inv .0, unlogged-more _ _ _ _ _ _ _ _ _ (c .before .before .before .before .before .before .before .before .before .before .before .before .before .loop .inv .1) (omega arith) refl (leaf-on _ _ (c .before .before .before .before .before .before .before .before .before .before .before .before .before .before .before .before .before .before .args .tree) _ _ _ _ _ _ (omega arith) (sym (c .before .before .before .before .before .before .before .before .before .before .entry .ensures _) ∙ ap (entryAs _) (c .before .before .before .before .before .before .before .before .found .given .1)) (c .before .before .before .before .before .visit-unlogged .ensures) (c .before .before .if2 .taken)) (c .before .before .before .before .before .visit-unlogged .ensures .1 .kept))
 
 same-length-2 : tie.Need-same-length-2 Inv-loop μ-loop
-same-length-2 c = returns-2 c .kept .long
+same-length-2 c = rw (c .before .before .before .visit-unlogged .ensures .1 .left (c .if2 .left)) (c .before .before .before .before .before .before .before .before .before .before .before .loop .inv .1 .kept .long)
+
+returns-2 : tie.Need-returns-2 Inv-loop μ-loop
+returns-2 c = rw (c .before .before .before .visit-unlogged .ensures .1 .left (c .if2 .left)) (c .before .before .before .before .before .before .before .before .before .before .before .loop .inv .1)
 
 same-length-3 : tie.Need-same-length-3 Inv-loop μ-loop
-same-length-3 c = c .before .loop .inv .kept .long
+same-length-3 c = c .before .before .loop .inv .1 .kept .long
 
 returns-3 : tie.Need-returns-3 Inv-loop μ-loop
-returns-3 c = c .before .loop .inv
+returns-3 c = c .before .before .loop .inv .1
 
 pub leaf-unlogged-spec : {M : Type 1} → statement M
 leaf-unlogged-spec =
@@ -68,9 +72,10 @@ leaf-unlogged-spec =
     enum-told
     same-length
     returns
-    enum-known-located
+    enum-known-found
     visit-unlogged-requires
-    add-k
+    add-next
+    sub-left
     loop-less
     loop-again
     same-length-2

@@ -1,7 +1,7 @@
-use mathlib.Core.Path.{refl, ap, _∙_}
+use Rattle.trees.proofs.VisitLaws.{same-run}
 use Rattle.nodes.specs.Scan.{scan}
 use Rattle.nodes.specs.Node.{levelOf}
-use Rattle.trees.proofs.VisitLaws.{same-run}
+use mathlib.Core.Path.{refl, ap, _∙_}
 use borrow.Author.Needs.{needs}
 use Rattle.trees.proofs.scans.scan.Statement.{statement}
 use Rattle.trees.proofs.scans.scan.Tie as tie

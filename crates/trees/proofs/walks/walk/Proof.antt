@@ -1,4 +1,4 @@
-use Rattle.trees.proofs.WalkLaws.{read-some, walks-whole}
+use Rattle.trees.proofs.WalkLaws.{read-some, whole-walked}
 use native.Mathlib.Omega.{arith}
 use borrow.Author.Needs.{needs}
 use Rattle.trees.proofs.walks.walk.Statement.{statement}
@@ -11,7 +11,7 @@ same-length : tie.Need-same-length
 same-length c = search needs
 
 returns : tie.Need-returns
-returns c = walks-whole _ _ _ _ _ _ _ _ (c .before .before .before .walk-below .ensures)
+returns c = whole-walked _ _ _ _ _ _ _ _ _ (c .before .before .before .walk-below .ensures)
 
 pub walk-spec : {M : Type 1} → statement M
 walk-spec = tie.close (tie.spec walk-below-requires same-length returns)

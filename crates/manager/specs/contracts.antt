@@ -1,0 +1,5 @@
+-- What the contracts of the code cite. Nobody has to believe it: the proofs tie it to the definition.
+pub mod Place
+pub mod Lists
+pub mod Load
+pub mod Answers

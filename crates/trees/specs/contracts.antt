@@ -1,0 +1,5 @@
+-- What the contracts of the code cite. Nobody has to believe it: the proofs tie it to the definition.
+pub mod Visits
+pub mod Walks
+pub mod Read
+pub mod Answers
