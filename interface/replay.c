@@ -1,9 +1,10 @@
 /* replay: runs images with known answers through the proved pass. tools/replay builds it and hands it the images.
  *
- * Standard input is one image after another: a line `NAME IMAGE-LENGTH MAP-LENGTH`, the image's bytes, the answer's numbers
- * (8 bytes each, in this machine's order), and the block map that the pass leaves of one whose byte i is i mod 251.
+ * Standard input is one image after another: a line `NAME IMAGE-LENGTH MAP-LENGTH NUMBERS`, the image's bytes, so many numbers of
+ * the answer (8 bytes each, in this machine's order), and the block map that the pass leaves of one whose byte i is i mod 251.
  *
- * Each image is run with two fills of the map and with arrays of numbers of three lengths. Prints a line for each image.
+ * Each image is run with two fills of the map and with arrays of numbers of three lengths. Numbers are compared as far as they
+ * are both stated and given. Prints a line for each image.
  * Exit status: 0 all agree, 1 some differ, 2 nothing to run or input cut short. */
 #include <inttypes.h>
 #include <stdio.h>
@@ -18,14 +19,14 @@ enum {
     BLOCK_COUNT = 40,      /* where block 0 states it, in 8 bytes */
     LAST_UNTOUCHED = 11,   /* up to this refusal the map is as handed in */
     LONGER = SPACE_CHECK_FIGURES + 4,
-    SHORTER = 28,
+    SHORTER = SPACE_CHECK_OVERLAPS,
 };
 
 struct image {
     char name[256];
     uint8_t *bytes, *copy, *left;
-    size_t length, map_length;
-    uint64_t answer[SPACE_CHECK_FIGURES];
+    size_t length, map_length, numbers;
+    uint64_t *answer;
 };
 
 static void *allocate(size_t length)
@@ -84,7 +85,8 @@ static int run(const struct image *image, int second, size_t figures_length)
     space_check(image->bytes, image->length, map, n, figures, figures_length);
 
     for (size_t i = 0; i < figures_length; i++) {
-        uint64_t expected = i < SPACE_CHECK_FIGURES ? image->answer[i] : UINT64_MAX;
+        int given = i < SPACE_CHECK_FIGURES, stated = i < image->numbers;
+        uint64_t expected = !given ? UINT64_MAX : stated ? image->answer[i] : figures[i];
         if (figures[i] != expected) {
             printf("%s differs: figure %zu is %" PRIu64 " and not %" PRIu64 "\n", image->name, i, figures[i], expected);
             goto end;
@@ -122,14 +124,15 @@ int main(void)
     struct image image;
     size_t images = 0, differ = 0;
 
-    while (scanf("%255s %zu %zu", image.name, &image.length, &image.map_length) == 3) {
+    while (scanf("%255s %zu %zu %zu", image.name, &image.length, &image.map_length, &image.numbers) == 4) {
         char newline;
         get(&newline, 1);
         image.bytes = allocate(image.length);
         image.copy = allocate(image.length);
+        image.answer = allocate(image.numbers * sizeof *image.answer);
         image.left = allocate(image.map_length);
         get(image.bytes, image.length);
-        get(image.answer, sizeof image.answer);
+        get(image.answer, image.numbers * sizeof *image.answer);
         get(image.left, image.map_length);
         memcpy(image.copy, image.bytes, image.length);
 
@@ -142,6 +145,7 @@ int main(void)
 
         free(image.bytes);
         free(image.copy);
+        free(image.answer);
         free(image.left);
     }
     if (!feof(stdin) || images == 0) {

@@ -12,7 +12,7 @@ extern "C" {
 
 /* How many numbers an answer has, and where each stands. After a refusal all but the first are 0. */
 enum {
-    SPACE_CHECK_REFUSAL = 0,      /* 1 to 22, or 0 where there is a report */
+    SPACE_CHECK_REFUSAL = 0,      /* its number, or 0 where there is a report */
     SPACE_CHECK_XID = 1,          /* transaction number of the checkpoint taken */
     SPACE_CHECK_POOL_USED = 2,    /* pool blocks in use */
     SPACE_CHECK_POOL_UNUSED = 3,  /* pool blocks marked but unused */
@@ -33,7 +33,7 @@ enum {
 /* image: the container's bytes, block 0 first. Only read; nothing may change them during the call.
  *
  * map: a byte for each block, with any content. A map shorter than the block count gives refusal 6. After refusals 1 to 11 it
- * is as handed in; otherwise its first bytes, one for each block, are written: 0 after refusals 12 to 22, and after a report
+ * is as handed in; otherwise its first bytes, one for each block, are written: 0 after any other refusal, and after a report
  * bits 0 to 3 the owner, bit 4 marked, bit 5 used in the pool. Bytes past the block count are kept.
  *
  * figures: gets the answer's numbers. A shorter array than SPACE_CHECK_FIGURES gets the first ones; places past that are kept.

@@ -1,8 +1,16 @@
-"""The images of a file in the form of compare/answers/list.txt (compare/README.md, "The fixed list"), with their answers."""
+"""The images of a file in the form of compare/answers/list.txt (compare/README.md, "The fixed list"), with their answers.
+
+An answer may have more numbers than the archive gives, and an image lines of a check by chunks (`chunks`, `chunks-left`) and of
+the rules that it is meant for (`level`): a file is then for code that is still to come, and what is known of it is taken."""
 import os
 
-NUMBERS = 79
-WORDS = {'define', 'image', 'made', 'base', 'length', 'at', 'map', 'rust', 'answer', 'left'}
+from definition import places
+
+PLACES = places()
+FIGURES = PLACES['FIGURES']
+# no answer has fewer numbers than those up to the verdict
+LEAST = PLACES['VERDICT'] + 1
+WORDS = {'define', 'image', 'made', 'base', 'length', 'at', 'map', 'level', 'rust', 'answer', 'left', 'chunks', 'chunks-left'}
 
 
 class Fault(Exception):
@@ -69,15 +77,44 @@ def answered(fields, image):
     """An image with its answer and the map that is left."""
     answer = [number(n) for n in needed(fields, 'answer').split()]
     length, left = number(needed(fields, 'map')), bytes.fromhex(needed(fields, 'left'))
-    if len(answer) != NUMBERS:
+    if len(answer) < LEAST:
         raise Fault(f'an answer of {len(answer)} numbers')
     if len(left) != length:
         raise Fault(f'{len(left)} bytes of a map of {length}')
-    return {'name': fields['image'], 'image': image, 'map': length, 'answer': answer, 'left': left}
+    return {'name': fields['image'], 'image': image, 'map': length, 'answer': answer, 'left': left, 'chunks': 'chunks' in fields}
 
 
-def read(path):
-    """The images of a file, at least one."""
+class Uncompared:
+    """What images state and the archive doesn't give."""
+
+    def __init__(self, images=()):
+        self.longer = self.chunks = 0
+        for v in images:
+            self.note(v)
+
+    def note(self, v):
+        self.longer += len(v['answer']) > FIGURES
+        self.chunks += v['chunks']
+
+    def __str__(self):
+        told = [(self.longer, f'numbers past {FIGURES}'), (self.chunks, 'lines `chunks`')]
+        return '; '.join(f'{what} not compared, in {images} images' for images, what in told if images)
+
+
+def files(paths):
+    """The files among paths, or in them; not a folder's INDEX, which says what each of the others shows."""
+    for path in paths:
+        inside = [os.path.join(path, name) for name in sorted(os.listdir(path))] if os.path.isdir(path) else [path]
+        yield from (file for file in inside if os.path.basename(file) != 'INDEX')
+
+
+def read(*paths):
+    """The images of files and of folders' files, at least one in each."""
+    for file in files(paths):
+        yield from read_file(file)
+
+
+def read_file(path):
     bases, images = {}, 0
     for item in items(path):
         try:

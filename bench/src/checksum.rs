@@ -3,10 +3,10 @@
 use std::hint::black_box;
 
 use apfs::checksum;
+use compare::fletcher::seal;
+use compare::rng::Rng;
 
 use crate::clock::timed;
-use crate::fletcher::seal;
-use crate::rng::Rng;
 use crate::table::Row;
 
 /// How much faster the proved checksum is to be.
@@ -37,7 +37,7 @@ pub fn rows() -> Result<Vec<Row>, String> {
 
 /// Random bytes, with their checksum where there is room for one.
 fn object(length: usize, rng: &mut Rng) -> Vec<u8> {
-    let mut object: Vec<u8> = (0..length).map(|_| rng.next() as u8).collect();
+    let mut object: Vec<u8> = (0..length).map(|_| rng.number() as u8).collect();
     if length >= 8 && length.is_multiple_of(4) {
         seal(&mut object);
     }

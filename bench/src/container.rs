@@ -3,6 +3,8 @@
 use std::fs::File;
 use std::sync::Arc;
 
+use compare::oracle::NUMBERS;
+
 use crate::agreement::agree;
 use crate::memory::{Mapping, Pages};
 use crate::passes::{original, proved, time_original, time_proved};
@@ -29,7 +31,7 @@ impl Measured {
         let image = Arc::new(Mapping::of_file(file).map_err(|e| e.to_string())?);
         let blocks = image.bytes().len() / BLOCK;
         self.answers(&subject, &image, blocks).map_err(|what| format!("{}: {what}", subject.what))?;
-        println!("{}: the same 78 figures and {blocks} bytes of the map", subject.what);
+        println!("{}: the same {} figures and {blocks} bytes of the map", subject.what, NUMBERS - 1);
         self.best(subject, &image, blocks)
     }
 
@@ -37,9 +39,9 @@ impl Measured {
         // Before the original: the stack that it leaves in memory would hide what a proved pass takes.
         let pass = |pages| proved(image.bytes(), blocks, pages).map_err(|e| e.to_string());
         let passes = [(Pages::Huge, pass(Pages::Huge)?), (Pages::Plain, pass(Pages::Plain)?)];
-        let (caught, ended) = original(image);
+        let original = original(image);
         for (pages, pass) in passes {
-            agree(&pass.figures, pass.map.bytes(), &caught, &ended)?;
+            agree(&pass.figures, pass.map.bytes(), &original)?;
             self.memory.push(Memory {
                 what: subject.what.clone(),
                 pages,

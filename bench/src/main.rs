@@ -3,23 +3,6 @@
 use std::fs::File;
 use std::process::ExitCode;
 
-// Offsets, checksum, nodes, random numbers and the answer's form are those of compare/.
-#[allow(dead_code)]
-#[path = "../../compare/src/answer.rs"]
-mod answer;
-#[allow(dead_code)]
-#[path = "../../compare/src/fields.rs"]
-mod fields;
-#[allow(dead_code)]
-#[path = "../../compare/src/fletcher.rs"]
-mod fletcher;
-#[allow(dead_code)]
-#[path = "../../compare/src/nodes.rs"]
-mod nodes;
-#[allow(dead_code)]
-#[path = "../../compare/src/rng.rs"]
-mod rng;
-
 mod agreement;
 mod checksum;
 mod clock;
@@ -31,6 +14,7 @@ mod scratch;
 mod synthetic;
 mod table;
 
+use compare::mkapfs::program;
 use container::{Measured, Subject, BLOCK};
 use memory::{Mapping, Pages};
 use scratch::Scratch;
@@ -90,7 +74,7 @@ fn measure(parts: &[&str]) -> Result<(), String> {
 }
 
 fn real(measured: &mut Measured) -> Result<(), String> {
-    let Some(program) = mkapfs::program() else {
+    let Some(program) = program() else {
         println!("mkapfs is not installed (Debian: apt-get install apfsprogs): its containers are left out");
         return Ok(());
     };

@@ -1,43 +1,32 @@
-//! Empty containers by mkapfs of Debian's apfsprogs.
+//! Empty containers by mkapfs, with a whole bitmap of the pool.
 
 use std::fs::File;
 use std::io;
 use std::os::unix::fs::FileExt;
-use std::path::{Path, PathBuf};
-use std::process::{Command, Stdio};
+use std::path::Path;
+
+use compare::fields::{checkpoint_map, manager as m, mapping, put, superblock as s};
+use compare::fletcher::seal;
+use compare::free_list::FreeList;
 
 use crate::container::BLOCK;
-use crate::fields::{checkpoint_map, manager as m, mapping, put, superblock as s};
-use crate::fletcher::seal;
 use crate::scratch::Scratch;
 
-/// mkapfs chooses others by chance.
-const UUID: &str = "6c7a1d0e-0000-4000-8000-000000000001";
 const BITMAP_BITS: u64 = 8 * BLOCK as u64;
 /// mkapfs keeps the list of bitmap indices in 8 bytes.
 const INDEX_ROOM: u64 = 4;
 
-/// It usually stands where only root's path looks.
-pub fn program() -> Option<PathBuf> {
-    let starts = |program: &PathBuf| {
-        Command::new(program).arg("-v").stdout(Stdio::null()).stderr(Stdio::null()).status().is_ok()
-    };
-    ["mkapfs", "/usr/sbin/mkapfs", "/sbin/mkapfs"].into_iter().map(PathBuf::from).find(starts)
-}
-
 /// A container of so many blocks, and whether its pool's bitmap had to be completed.
 pub fn make(program: &Path, blocks: u64) -> io::Result<(Scratch, bool)> {
     let scratch = Scratch::new(&format!("mkapfs-{blocks}"), blocks * BLOCK as u64)?;
-    let status = Command::new(program).args(["-U", UUID, "-u", UUID]).arg(&scratch.path).status()?;
-    if !status.success() {
-        return Err(io::Error::other(format!("mkapfs ended with {status}")));
-    }
+    compare::mkapfs::make(program, &scratch.path)?;
     let completed = complete_pool_bitmap(&scratch.file)?;
     Ok((scratch, completed))
 }
 
 /// Some versions give every pool one bitmap block, which is too small from 32,769 pool blocks on: the original panics
-/// there, and the proved pass refuses. The manager is told of as many as the pool needs; the others' bits are all 0.
+/// there, and the proved pass refuses. The manager is told of as many as the pool needs, which its free list then lacks;
+/// the others' bits are all 0.
 fn complete_pool_bitmap(file: &File) -> io::Result<bool> {
     let address = manager(file)?;
     let mut block = read(file, address)?;
@@ -53,6 +42,10 @@ fn complete_pool_bitmap(file: &File) -> io::Result<bool> {
     for i in told..needed {
         put(&mut block, list + i as usize * m::INDEX_WIDTH, m::INDEX_WIDTH, i);
     }
+    let ring = m::BITMAP_RING.of(&block);
+    let unused: Vec<u64> = (needed..ring).collect();
+    let table = m::FREE_NEXT_OFFSET.of(&block) as usize;
+    FreeList::through(&unused, ring).write(&mut block, table);
     seal(&mut block);
     file.write_all_at(&block, address * BLOCK as u64)?;
     Ok(true)

@@ -4,33 +4,19 @@ use std::io;
 use std::sync::Arc;
 
 use apfs::dev::BlockDevice;
-use apfs::Container;
-use winapfs::dump::space_check_container;
-use winapfs::{take_caught, want_cells, Caught};
+use compare::oracle::{self, Ended};
+use space_check::{figures_into, FIGURES};
+use winapfs::{take_caught, want_cells};
 
-use crate::answer::NUMBERS;
 use crate::clock::timed;
 use crate::memory::{resident, Mapping, Pages};
 
-extern "C" {
-    fn space_check(
-        image: *const u8,
-        image_length: usize,
-        map: *mut u8,
-        map_length: usize,
-        figures: *mut u64,
-        figures_length: usize,
-    );
-}
-
-pub type Figures = [u64; NUMBERS];
+pub type Figures = [u64; FIGURES];
 
 fn check(image: &[u8], map: &mut [u8]) -> Figures {
     // Not the zeros that a number left out would be taken for.
-    let mut figures = [u64::MAX; NUMBERS];
-    let (numbers, room) = (figures.as_mut_ptr(), figures.len());
-    // SAFETY: each buffer is lent whole for the call, and the three don't overlap.
-    unsafe { space_check(image.as_ptr(), image.len(), map.as_mut_ptr(), map.len(), numbers, room) };
+    let mut figures = [u64::MAX; FIGURES];
+    figures_into(image, map, &mut figures);
     figures
 }
 
@@ -69,23 +55,22 @@ impl BlockDevice for Device {
     }
 }
 
-/// What the original prints and hands out, or its error; its verdict "inconsistent" is one of them.
-pub fn original(image: &Arc<Mapping>) -> (Caught, Result<(), String>) {
-    take_caught();
+impl Device {
+    fn boxed(image: &Arc<Mapping>) -> Box<dyn BlockDevice> {
+        Box::new(Device(Arc::clone(image)))
+    }
+}
+
+/// What the original answers.
+pub fn original(image: &Arc<Mapping>) -> Ended {
     want_cells(true);
-    let ended = pass(image);
-    (take_caught(), ended)
+    oracle::run(Device::boxed(image))
 }
 
 /// Seconds of a pass of the original, which allocates and frees its own zeroed vectors.
 pub fn time_original(image: &Arc<Mapping>) -> f64 {
     want_cells(false);
-    let (_, seconds) = timed(|| pass(image));
+    let (_, seconds) = timed(|| oracle::pass(Device::boxed(image)));
     take_caught();
     seconds
-}
-
-fn pass(image: &Arc<Mapping>) -> Result<(), String> {
-    let container = Container::open(Box::new(Device(Arc::clone(image)))).map_err(|e| e.to_string())?;
-    space_check_container(&container, "image").map_err(|e| e.msg)
 }

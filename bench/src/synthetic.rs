@@ -12,17 +12,15 @@ use std::fs::File;
 use std::io;
 use std::os::unix::fs::FileExt;
 
+use compare::rng::Rng;
+
 use crate::container::BLOCK;
-use crate::rng::Rng;
 use bitmaps::{Bits, Chunks};
 use queues::{MAIN_SLOT, POOL_SLOT};
 
 const XID: u64 = 1000;
 const MANAGER_ID: u64 = 0x400;
 const QUEUE_ID: u64 = 0x1_0000;
-/// Stored beside the kind in a type: an ephemeral and a physical object.
-const EPHEMERAL: u64 = 0x8000_0000;
-const PHYSICAL: u64 = 0x4000_0000;
 
 /// What a container is to hold.
 #[derive(Clone, Copy)]

@@ -52,7 +52,7 @@ pub struct Arguments {
     #[arg(long, short)]
     pub quiet: bool,
 
-    /// Tell what refusal N, from 1 to 22, means and what to do next
+    /// Tell what refusal N means and what to do next
     #[arg(long, value_name = "N", value_parser = refusal, exclusive = true)]
     explain: Option<Refusal>,
 
@@ -101,15 +101,14 @@ impl Arguments {
 }
 
 fn refusal(number: &str) -> Result<Refusal, String> {
-    let refusal = number.parse().ok().and_then(Refusal::from_number);
-    refusal.ok_or_else(|| format!("refusals have numbers from 1 to {}", Refusal::ALL.len()))
+    number.parse().ok().and_then(Refusal::from_number).ok_or_else(|| "no refusal has this number".into())
 }
 
 /// Prints help, version or what is wrong. A wrong command line must not pass for a refused disk, as clap's own 2 would.
 pub fn tell(message: &clap::Error) -> Status {
     match message.print() {
-        Ok(()) if !message.use_stderr() => Status::Consistent,
-        _ => Status::Unreadable,
+        Ok(()) if !message.use_stderr() => Status::DONE,
+        _ => Status::NoAnswer,
     }
 }
 
@@ -118,5 +117,5 @@ pub fn complete(shell: Shell) -> Status {
     let mut command = Arguments::command();
     let name = command.get_name().to_string();
     generate(shell, &mut command, name, &mut script);
-    output::print(script, Status::Consistent)
+    output::print(script, Status::DONE)
 }

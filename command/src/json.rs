@@ -5,8 +5,8 @@ use std::path::Path;
 use serde_json::{json, Value};
 use space_check::{Kind, Lost, Overlap, Problem, Refusal, Report};
 
+use crate::checked::Checked;
 use crate::explain;
-use crate::one::Checked;
 use crate::status::Status;
 
 const REFUSED: &str = "refused";
@@ -34,14 +34,14 @@ pub fn checked(checked: &Checked) -> String {
     }))
 }
 
-pub fn unreadable(image: &Path, reason: &str) -> String {
+pub fn no_answer(image: &Path, reason: &str) -> String {
     line(json!({
         "image": image.to_string_lossy(),
         "partition": null,
         "offset": null,
         "length": null,
         "answer": UNREADABLE,
-        "exit_status": Status::Unreadable as u8,
+        "exit_status": Status::NoAnswer as u8,
         "block_size": null,
         "block_count": null,
         "report": null,

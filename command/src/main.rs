@@ -1,6 +1,7 @@
 //! `apfs-space-check`: the proved space check for images and block devices, at a terminal and in scripts.
 
 mod arguments;
+mod checked;
 mod container;
 mod disk;
 mod explain;
@@ -23,7 +24,7 @@ use status::Status;
 fn main() -> ExitCode {
     let status = match Arguments::read() {
         Ok(arguments) => match arguments.task() {
-            Task::Explain(refusal) => output::print(format!("{}\n", explain::sentence(refusal)), Status::Consistent),
+            Task::Explain(refusal) => output::print(format!("{}\n", explain::sentence(refusal)), Status::DONE),
             Task::Complete(shell) => arguments::complete(shell),
             Task::Check(images) => check(&arguments, images),
         },
@@ -35,7 +36,7 @@ fn main() -> ExitCode {
 fn check(arguments: &Arguments, images: &[PathBuf]) -> Status {
     if let Err(reason) = files::may_be_written(arguments) {
         output::note(&reason);
-        return Status::Unreadable;
+        return Status::NoAnswer;
     }
     match arguments.only_image.and_then(|at| images.get(at)) {
         Some(image) => {

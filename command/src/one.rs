@@ -4,47 +4,27 @@ use std::io;
 use std::path::Path;
 
 use memmap2::{Advice, MmapMut};
-use space_check::{Refusal, Report};
 
 use crate::arguments::Arguments;
+use crate::checked::Checked;
 use crate::container::Container;
 use crate::disk::Disk;
 use crate::picture::Picture;
 use crate::status::Status;
 use crate::{explain, files, json, output};
 
-/// An image, and what the check answered.
-pub struct Checked<'a> {
-    pub image: &'a Path,
-    pub container: Container<'a>,
-    pub answer: Result<Report, Refusal>,
-    /// A byte for each block, where there is a report.
-    pub map: &'a [u8],
-}
-
-impl Checked<'_> {
-    /// What stands in the listing's first line, as the original has it.
-    pub fn title(&self) -> String {
-        let name = output::shown(self.image);
-        match self.container.partition {
-            Some(number) => format!("{name} partition {number}"),
-            None => name,
-        }
-    }
-}
-
 /// Checks an image, prints what was found and writes the files asked for.
 pub fn check(arguments: &Arguments, image: &Path) -> Status {
-    answered(arguments, image).unwrap_or_else(|reason| unreadable(arguments, image, &reason))
+    answered(arguments, image).unwrap_or_else(|reason| no_answer(arguments, image, &reason))
 }
 
 /// Says why an image has no answer.
-pub fn unreadable(arguments: &Arguments, image: &Path, reason: &str) -> Status {
+pub fn no_answer(arguments: &Arguments, image: &Path, reason: &str) -> Status {
     output::note_of(image, reason);
     if arguments.json {
-        return output::print(json::unreadable(image, reason), Status::Unreadable);
+        return output::print(json::no_answer(image, reason), Status::NoAnswer);
     }
-    Status::Unreadable
+    Status::NoAnswer
 }
 
 fn answered(arguments: &Arguments, image: &Path) -> Result<Status, String> {
@@ -106,6 +86,6 @@ fn write_files(arguments: &Arguments, checked: &Checked) -> Status {
     let failed = map.chain(picture).filter_map(|(path, written)| Some((path, written.err()?)));
     failed.fold(status, |_, (path, reason)| {
         output::note_of(path, &reason.to_string());
-        Status::Unreadable
+        Status::NoAnswer
     })
 }

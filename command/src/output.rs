@@ -21,7 +21,7 @@ pub fn print(text: impl AsRef<[u8]>, status: Status) -> Status {
             if reason.kind() != ErrorKind::BrokenPipe {
                 note(&format!("standard output: {reason}"));
             }
-            Status::Unreadable
+            Status::NoAnswer
         }
     }
 }

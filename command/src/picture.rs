@@ -6,7 +6,7 @@ use std::path::Path;
 
 use space_check::{Cell, Kind, Log, Report};
 
-use crate::one::Checked;
+use crate::checked::Checked;
 use crate::{files, font};
 
 /// What a block is drawn as, a number in the palette. Of a cell's blocks the highest number from `LEAKED` on decides, else

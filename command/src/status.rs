@@ -8,11 +8,14 @@ pub enum Status {
     Consistent = 0,
     Inconsistent = 1,
     Refused = 2,
-    /// No answer: an image could not be read, a file not be written, or the command line makes no sense.
-    Unreadable = 3,
+    /// An image could not be read, a file not be written, or the command line makes no sense.
+    NoAnswer = 3,
 }
 
 impl Status {
+    /// What checks no image was done, as `--explain`. It has the number of a consistent image, since 0 is success.
+    pub const DONE: Status = Status::Consistent;
+
     pub fn of(answer: &Result<Report, Refusal>) -> Status {
         match answer {
             Ok(report) if report.verdict == Verdict::Consistent => Status::Consistent,
@@ -22,7 +25,7 @@ impl Status {
     }
 
     pub fn from_code(code: i32) -> Option<Status> {
-        let all = [Status::Consistent, Status::Inconsistent, Status::Refused, Status::Unreadable];
+        let all = [Status::Consistent, Status::Inconsistent, Status::Refused, Status::NoAnswer];
         all.into_iter().find(|&status| status as i32 == code)
     }
 }

@@ -27,27 +27,27 @@ pub fn end_with_parent() {
     thread::spawn(|| {
         // nothing is ever written there: a read comes back when the other side is closed
         let _ = io::stdin().read(&mut [0]);
-        process::exit(Status::Unreadable as i32);
+        process::exit(Status::NoAnswer as i32);
     });
 }
 
 /// Checks the images one after another; the worst status.
 pub fn check_all(arguments: &Arguments, images: &[PathBuf]) -> Status {
     let statuses = images.iter().enumerate().map(|(at, image)| check_one(arguments, at, image));
-    statuses.max().unwrap_or(Status::Unreadable)
+    statuses.max().unwrap_or(Status::NoAnswer)
 }
 
 fn check_one(arguments: &Arguments, at: usize, image: &Path) -> Status {
     let ended = match run(arguments, at, image) {
         Ok(ended) => ended,
-        Err(reason) => return one::unreadable(arguments, image, &format!("the check can't be run: {reason}")),
+        Err(reason) => return one::no_answer(arguments, image, &format!("the check can't be run: {reason}")),
     };
     // where that can't be written there is no place left to say so
     let _ = io::stderr().write_all(&ended.stderr);
     match ended.status.code().and_then(Status::from_code) {
         Some(status) => output::print(ended.stdout, status),
         // whatever it printed before is no answer
-        None => one::unreadable(arguments, image, &reason_of(ended.status)),
+        None => one::no_answer(arguments, image, &reason_of(ended.status)),
     }
 }
 

@@ -1,6 +1,8 @@
-"""What the tests of apfs-space-check share: the command, the images with known answers, scratch files."""
+"""What the tests of apfs-space-check share: the command, the images with known answers, the operators' page, scratch files."""
 import json
 import os
+import re
+import shutil
 import struct
 import subprocess
 import sys
@@ -8,13 +10,20 @@ import tempfile
 import unittest
 
 sys.dont_write_bytecode = True
-ROOT = os.path.dirname(os.path.dirname(os.path.dirname(os.path.abspath(__file__))))
-sys.path.insert(0, os.path.join(ROOT, 'tools'))
-import images  # noqa: E402  (beside the other tools)
+sys.path.insert(0, os.path.join(os.path.dirname(os.path.dirname(os.path.dirname(os.path.abspath(__file__)))), 'tools'))
+import definition  # noqa: E402  (beside the other tools)
+import images  # noqa: E402
+from definition import ROOT  # noqa: E402
+from images import FIGURES, PLACES  # noqa: E402, F401
 
 COMMAND = os.path.join(ROOT, 'command', 'target', 'release', 'apfs-space-check')
 SAMPLE = os.path.join(ROOT, 'crates', 'listing', 'stdin')
-CONSISTENT, INCONSISTENT, REFUSED, UNREADABLE = range(4)
+CONSISTENT, INCONSISTENT, REFUSED, NO_ANSWER = range(4)
+# of what checks no image, as --help
+DONE = 0
+
+# where some of the programs are that the tests use, which not every user looks
+os.environ['PATH'] += ':/usr/sbin:/sbin'
 
 BLOCK = 4096
 # where the sample's chunk bitmap stands, of which bits 0 to 9 are set
@@ -33,13 +42,50 @@ def lost_and_leaked():
     return image
 
 
+# what numbers and names must be, from what is proved and not from the code under test
+KINDS = definition.kinds()
+PROBLEMS = definition.problems()
+REFUSALS = definition.refusals()
+# so many problems, and so many overlaps, are named in a report
+LOGGED = (PLACES['FREE'] - PLACES['PROBLEM']) // 2
+
+
+def figure(v, name):
+    """A number of an image's answer."""
+    return v['answer'][PLACES[name]]
+
+
+def problem_blocks(v):
+    """The blocks of the problems that an image's answer names."""
+    return v['answer'][PLACES['PROBLEM'] + 1:PLACES['FREE']:2][:figure(v, 'PROBLEMS')]
+
+
+def overlap_blocks(v):
+    return v['answer'][PLACES['OVERLAP']:PLACES['LOST']:3][:figure(v, 'OVERLAPS')]
+
+
 def known(path=os.path.join(ROOT, 'compare', 'answers', 'list.txt')):
-    """The images of the fixed list with the answers that the command must give: it never lends a short map (6)."""
-    return [v for v in images.read(path) if v['answer'][0] != 6]
+    """The images of the fixed list with the answers that the command must give: it never lends a short map."""
+    return [v for v in images.read(path) if figure(v, 'REFUSAL') != REFUSALS['ShortMap']]
+
+
+OPERATORS_PAGE = definition.read_text('docs', 'OPERATOR.md')
+
+
+def page_rows(pattern):
+    """The rows of the page's tables that begin like a pattern, as its groups."""
+    return re.findall(rf'^\| {pattern} \|', OPERATORS_PAGE, re.MULTILINE)
+
+
+def packages():
+    """The packages that programs come from, by tools/packages.txt."""
+    rows = (line.split() for line in definition.read_text('tools', 'packages.txt').splitlines() if not line.startswith('#'))
+    return {program: package for _, package, program in rows}
 
 
 class CommandTest(unittest.TestCase):
     """Each test has a folder of its own, in which the command is run."""
+    PACKAGES = packages()
 
     def setUp(self):
         scratch = tempfile.TemporaryDirectory()
@@ -67,9 +113,15 @@ class CommandTest(unittest.TestCase):
             file.truncate(length)
         return name
 
-    def must(self, *command, **options):
+    def needs(self, program):
+        """The test is left out where a program that a package has isn't installed."""
+        if program in self.PACKAGES and shutil.which(program) is None:
+            self.skipTest(f'package {self.PACKAGES[program]}')
+
+    def must(self, program, *arguments, **options):
         """Runs another program, which must succeed."""
-        done = subprocess.run(command, cwd=self.folder, capture_output=True, check=False, **options)
+        self.needs(program)
+        done = subprocess.run([program, *arguments], cwd=self.folder, capture_output=True, check=False, **options)
         self.assertEqual(done.returncode, 0, done)
         return done.stdout
 

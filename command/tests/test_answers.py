@@ -4,36 +4,37 @@ import struct
 import subprocess
 import unittest
 
-from support import CONSISTENT, INCONSISTENT, REFUSED, ROOT, CommandTest, known, lost_and_leaked
+from support import (CONSISTENT, FIGURES, INCONSISTENT, KINDS, PLACES, PROBLEMS, REFUSALS, REFUSED, ROOT, CommandTest, figure,
+                     known, lost_and_leaked, page_rows)
 
 LISTING = os.path.join(ROOT, 'target', 'bin', 'listing')
 
-KINDS = ['container superblock', 'checkpoint descriptor area', 'checkpoint data area', 'internal pool',
-         'internal-pool bitmap ring', 'object map', 'object map node', 'volume superblock',
-         'free queue (pending release)']
-PROBLEMS = ['chunk-info block {} is free in the internal-pool bitmap', 'chunk bitmap {} is free in the internal-pool bitmap',
-            'internal-pool block {} used twice', 'queued internal-pool block {} is already free',
-            'internal-pool block {} queued but still in use']
-PROBLEM_NAMES = ['chunk-info block unmarked', 'chunk bitmap unmarked', 'chunk bitmap already used', 'queued block unmarked',
-                 'queued block already used']
+# the page's rows of problems: line, number, and the name that JSON alone has
+PROBLEM_ROWS = {int(number): (line, name) for line, number, name in page_rows(r'`([^`]*)` \| (\d+), (.*?)')}
 REPORTED = {'consistent': (1, CONSISTENT), 'inconsistent': (2, INCONSISTENT)}
 
 
-def padded(numbers, length):
-    return numbers + [0] * (length - len(numbers))
-
-
 def figures(answer):
-    """The answer's 79 numbers, from a parsed line of JSON."""
+    """The answer's numbers at their places, from a parsed line of JSON."""
+    found = [0] * FIGURES
+
+    def put(name, *numbers):
+        found[PLACES[name]:PLACES[name] + len(numbers)] = numbers
+
     if answer['answer'] == 'refused':
-        return padded([answer['refusal']['number']], 79)
+        put('REFUSAL', answer['refusal']['number'])
+        return found
     r = answer['report']
-    problems = [n for p in r['problems']['first'] for n in (p['number'], p['block'])]
-    overlaps = [n for o in r['overlaps']['first'] for n in (o['block'], o['owner']['number'], o['claimant']['number'])]
-    lost = r['lost']['kinds']
-    return [0, r['xid'], r['pool_used'], r['pool_unused'], r['problems']['total'], *padded(problems, 20), r['free'],
-            r['wrong_chunks'], r['device_free'], r['overlaps']['total'], *padded(overlaps, 30),
-            *(kind['count'] for kind in lost), *(kind['first'] or 0 for kind in lost), r['leaked'], r['verdict']['number']]
+    for name in 'xid', 'pool_used', 'pool_unused', 'free', 'wrong_chunks', 'device_free', 'leaked':
+        put(name.upper(), r[name])
+    put('PROBLEMS', r['problems']['total'])
+    put('PROBLEM', *(n for p in r['problems']['first'] for n in (p['number'], p['block'])))
+    put('OVERLAPS', r['overlaps']['total'])
+    put('OVERLAP', *(n for o in r['overlaps']['first'] for n in (o['block'], o['owner']['number'], o['claimant']['number'])))
+    put('LOST', *(kind['count'] for kind in r['lost']['kinds']))
+    put('FIRST_LOST', *(kind['first'] or 0 for kind in r['lost']['kinds']))
+    put('VERDICT', r['verdict']['number'])
+    return found
 
 
 def lines(answer):
@@ -45,7 +46,7 @@ def lines(answer):
     found = [f"space check  {answer['image']}  xid {r['xid']}",
              f"internal pool  {r['pool_used']} blocks in use, {r['pool_unused']} marked but unused, "
              f"{r['problems']['total']} problems",
-             *('  ' + PROBLEMS[p['number'] - 1].format(hex(p['block'])) for p in r['problems']['first']),
+             *('  ' + PROBLEMS[p['number']].format(hex(p['block'])) for p in r['problems']['first']),
              f"bitmaps    {r['free']} blocks free; chunks with a wrong free count: {r['wrong_chunks']}; device free count "
              f"{r['device_free']} ({matches})",
              f"overlaps   {r['overlaps']['total']} blocks claimed by two different things",
@@ -65,9 +66,9 @@ class Answers(CommandTest):
         report = answer['report']
         kinds = report['lost']['kinds'] + [o[who] for o in report['overlaps']['first'] for who in ('owner', 'claimant')]
         for kind in kinds:
-            self.assertEqual(kind['name'], KINDS[kind['number'] - 1])
+            self.assertEqual(kind['name'], KINDS[kind['number']])
         for problem in report['problems']['first']:
-            self.assertEqual(problem['name'], PROBLEM_NAMES[problem['number'] - 1])
+            self.assertEqual(problem['name'], PROBLEM_ROWS[problem['number']][1])
         number, status = REPORTED[answer['answer']]
         self.assertEqual((report['verdict']['number'], answer['exit_status']), (number, status))
         self.assertEqual(report['verdict']['name'], answer['answer'])
@@ -82,24 +83,33 @@ class Answers(CommandTest):
         status, out, err = self.run_command(image)
         self.assertEqual(out, lines(answer))
         self.assertEqual(status, answer['exit_status'])
-        if v['answer'][0]:
+        refused = figure(v, 'REFUSAL')
+        if refused:
             self.assertEqual((status, answer['report'], os.listdir(self.folder)), (REFUSED, None, [image]))
-            self.assertIn(f"{image}: refused {v['answer'][0]}: {answer['refusal']['name']}; {answer['refusal']['next']}", err)
+            self.assertIn(f"{image}: refused {refused}: {answer['refusal']['name']}; {answer['refusal']['next']}", err)
         else:
             self.names_agree(answer)
             size, count = struct.unpack_from('<IQ', v['image'], 36)
             self.assertEqual((answer['block_size'], answer['block_count']), (size, count))
             self.assertEqual(self.read('map'), v['left'][:count])
             self.assertEqual((err, answer['refusal']), ('', None))
-        return v['answer'][0], v['answer'][78]
+        return refused, figure(v, 'VERDICT')
 
     def test_images_with_the_originals_answers(self):
         met = set()
         for v in known():
             with self.subTest(v['name']):
                 met.add(self.agrees(v))
-        every_refusal = {(n, 0) for n in range(1, 23)} - {(6, 0)}
-        self.assertEqual(met, every_refusal | {(0, 1), (0, 2)})
+        every_refusal = {(number, 0) for name, number in REFUSALS.items() if name != 'ShortMap'}
+        self.assertEqual(met, every_refusal | {(0, verdict) for verdict, _ in REPORTED.values()})
+
+    def test_names_on_the_operators_page(self):
+        self.assertEqual({number: line for number, (line, _) in PROBLEM_ROWS.items()},
+                         {number: line.format('B') for number, line in PROBLEMS.items()})
+        owners = [(str(number), name) for number, name in KINDS.items()]
+        rows = page_rows(r'(\d+) \| (.*?)')
+        self.assertEqual(rows[:len(owners)], owners)
+        self.assertEqual([int(number) for number, _ in rows[len(owners):]], sorted(REFUSALS.values()))
 
     def test_lines_are_those_of_the_proved_listing(self):
         """The program crates/listing, whose lines are proved, on the images that it takes whole."""

@@ -8,7 +8,7 @@ import time
 import unittest
 import zlib
 
-from support import (BLOCK, COMMAND, CONSISTENT, INCONSISTENT, REFUSED, SAMPLE, UNREADABLE, CommandTest, lost_and_leaked,
+from support import (BLOCK, COMMAND, CONSISTENT, INCONSISTENT, NO_ANSWER, REFUSED, SAMPLE, CommandTest, lost_and_leaked,
                      sample, slow)
 
 APFS = '7C3457EF-0000-11AA-AA11-00306543ECAC'
@@ -48,7 +48,7 @@ class Files(CommandTest):
 
     def test_no_file(self):
         status, out, err = self.run_command('absent.img')
-        self.assertEqual((status, out), (UNREADABLE, ''))
+        self.assertEqual((status, out), (NO_ANSWER, ''))
         self.assertIn('absent.img: No such file or directory', err)
 
     def test_what_is_no_file(self):
@@ -57,7 +57,7 @@ class Files(CommandTest):
         neither = 'it is neither a file nor a block device'
         for name, reason in [('folder', 'it is a directory'), ('pipe', neither), ('/dev/zero', neither)]:
             status, out, err = self.run_command(name)
-            self.assertEqual((status, out, err), (UNREADABLE, '', f'apfs-space-check: {name}: {reason}\n'))
+            self.assertEqual((status, out, err), (NO_ANSWER, '', f'apfs-space-check: {name}: {reason}\n'))
             answer = self.json_of(name)
             self.assertEqual((answer['image'], answer['answer'], answer['error']), (name, 'unreadable', reason))
 
@@ -94,7 +94,7 @@ class Files(CommandTest):
         good, bad = self.write('good.img', sample()), self.write('bad.img', lost_and_leaked())
         cut = self.write('cut.img', sample()[:BLOCK])
         for names, worst in [([good, bad], INCONSISTENT), ([bad, good], INCONSISTENT), ([cut, bad, good], REFUSED),
-                             ([good, 'absent', cut], UNREADABLE)]:
+                             ([good, 'absent', cut], NO_ANSWER)]:
             self.assertEqual(self.run_command(*names)[0], worst, names)
         # each has its own lines, in the order of the command line, whatever came before
         names = [cut, 'absent', good, good, good, good, bad]
@@ -106,9 +106,9 @@ class Files(CommandTest):
         status, out, _ = self.run_command('--json', *names)
         answers = [json.loads(line) for line in out.splitlines()]
         self.assertEqual([answer['image'] for answer in answers], names)
-        self.assertEqual([answer['exit_status'] for answer in answers], [REFUSED, UNREADABLE, 0, 0, 0, 0, INCONSISTENT])
+        self.assertEqual([answer['exit_status'] for answer in answers], [REFUSED, NO_ANSWER, 0, 0, 0, 0, INCONSISTENT])
         self.assertEqual({tuple(answer) for answer in answers}, {tuple(answers[0])}, 'the same keys in every line')
-        self.assertEqual(status, UNREADABLE)
+        self.assertEqual(status, NO_ANSWER)
 
     def test_images_are_not_written(self):
         image = self.write('disk.img', sample())
@@ -167,7 +167,7 @@ class Places(CommandTest):
         self.assertEqual(self.run_command(disk, '--offset', str(16 * MIB + 1))[:2], (REFUSED, 'refused 2\n'))
         self.assertEqual(self.run_command(disk, '--offset', str(64 * MIB))[:2], (REFUSED, 'refused 1\n'))
         status, _, err = self.run_command(disk, '--offset', str(64 * MIB + 1))
-        self.assertEqual(status, UNREADABLE)
+        self.assertEqual(status, NO_ANSWER)
         self.assertIn('disk.img: byte 67108865 lies past its end, at 67108864', err)
 
     def test_a_partition_that_is_not_there(self):
@@ -176,21 +176,21 @@ class Places(CommandTest):
         self.assertEqual((status, out), (REFUSED, 'refused 2\n'))
         self.assertIn('disk.img partition 1: refused 2: ', err)
         status, _, err = self.run_command(disk, '--partition', '3')
-        self.assertEqual(status, UNREADABLE)
+        self.assertEqual(status, NO_ANSWER)
         self.assertIn('disk.img: no partition 3; its GPT has 1, 2 (APFS)', err)
 
     def test_none_or_several(self):
         status, _, err = self.run_command(self.disk((LINUX, sample())))
-        self.assertEqual(status, UNREADABLE)
+        self.assertEqual(status, NO_ANSWER)
         self.assertIn('disk.img: no APFS partition; its GPT has 1\n', err)
         status, _, err = self.run_command(self.disk((APFS, sample()), (APFS, lost_and_leaked())))
-        self.assertEqual(status, UNREADABLE)
+        self.assertEqual(status, NO_ANSWER)
         self.assertIn('several APFS partitions: --partition names one; its GPT has 1 (APFS), 2 (APFS)', err)
         self.assertEqual(self.run_command('disk.img', '--partition', '2')[0], INCONSISTENT)
 
     def test_no_gpt(self):
         status, _, err = self.run_command(self.write('plain.img', sample()), '--partition', '1')
-        self.assertEqual(status, UNREADABLE)
+        self.assertEqual(status, NO_ANSWER)
         self.assertIn('plain.img: it has no GPT', err)
 
     def test_an_mbr(self):
@@ -221,7 +221,7 @@ class Places(CommandTest):
             self.assertEqual(self.json_of(disk)['note'], note)
             self.patch(64 * MIB - sector + 40, b'\xff')  # the second table's header
             status, out, err = self.run_command(disk)
-            self.assertEqual((status, out), (UNREADABLE, ''))
+            self.assertEqual((status, out), (NO_ANSWER, ''))
             self.assertIn('disk.img: its GPT is damaged at both ends', err)
             self.assertEqual(self.run_command(disk, '--offset', str(16 * MIB))[0], CONSISTENT)
 
@@ -240,9 +240,9 @@ class Places(CommandTest):
         disk = self.disk((APFS, sample()))
         self.forge(1024 + 40, struct.pack('<Q', 3))  # the partition's last sector
         status, _, err = self.run_command(disk)
-        self.assertEqual((status, err), (UNREADABLE, 'apfs-space-check: disk.img: partition 1 ends before it begins\n'))
-        for at, width, value in [(512 + 12, 4, 17), (512 + 12, 4, 91), (512 + 12, 4, 513), (512 + 80, 4, 2 ** 32 - 1), (512 + 84, 4, 64),
-                                 (512 + 84, 4, 2 ** 32 - 1), (512 + 72, 8, 2 ** 64 - 1), (1024 + 32, 8, 2 ** 63)]:
+        self.assertEqual((status, err), (NO_ANSWER, 'apfs-space-check: disk.img: partition 1 ends before it begins\n'))
+        for at, width, value in [(512 + 12, 4, 17), (512 + 12, 4, 91), (512 + 12, 4, 513), (512 + 80, 4, 2 ** 32 - 1),
+                                 (512 + 84, 4, 64), (512 + 84, 4, 2 ** 32 - 1), (512 + 72, 8, 2 ** 64 - 1), (1024 + 32, 8, 2 ** 63)]:
             disk = self.disk((APFS, sample()))
             self.forge(at, value.to_bytes(width, 'little'))
             status, out, err = self.run_command(disk)
@@ -253,7 +253,7 @@ class Places(CommandTest):
         os.truncate(self.path(disk), 16 * MIB + len(sample()) - 1)
         self.assertEqual(self.run_command(disk)[:2], (REFUSED, 'refused 5\n'))
         os.truncate(self.path(disk), 9 * MIB)
-        self.assertEqual(self.run_command(disk)[0], UNREADABLE)
+        self.assertEqual(self.run_command(disk)[0], NO_ANSWER)
 
     def test_what_older_use_has_left(self):
         """Where an MBR says that there is a GPT, it counts, and else what begins at byte 0."""
@@ -264,16 +264,19 @@ class Places(CommandTest):
         self.assertEqual(self.run_command(disk)[0], CONSISTENT)
         self.patch(0, bytes(len(sample())))
         self.assertEqual(self.run_command(disk)[:2], (REFUSED, 'refused 2\n'))
-        self.assertEqual(self.run_command(disk, '--partition', '1')[0], UNREADABLE)
+        self.assertEqual(self.run_command(disk, '--partition', '1')[0], NO_ANSWER)
 
 
 class Devices(CommandTest):
     def loop(self, image):
-        """A block device that can't be written to."""
+        """A block device that can't be written to. Where the system lets nobody make one, the test is left out."""
+        self.needs('losetup')
         attached = subprocess.run(['losetup', '--find', '--show', '--read-only', self.path(image)], capture_output=True,
                                   text=True, check=False)
-        if attached.returncode != 0:
-            self.skipTest(f'no loop device: {attached.stderr.strip()}')
+        refused = 'Permission denied' in attached.stderr or 'Operation not permitted' in attached.stderr
+        if refused or not os.path.exists('/dev/loop-control'):
+            self.skipTest(f'no right to make a block device: {attached.stderr.strip()}')
+        self.assertEqual(attached.returncode, 0, attached)
         device = attached.stdout.strip()
         self.addCleanup(subprocess.run, ['losetup', '--detach', device], check=True)
         return device
@@ -285,7 +288,7 @@ class Devices(CommandTest):
         # and is never written to by a slip
         for option in '--map', '--picture':
             status, _, err = self.run_command(SAMPLE, option, device)
-            self.assertEqual((status, err), (UNREADABLE, f'apfs-space-check: {device}: a block device is never written to\n'))
+            self.assertEqual((status, err), (NO_ANSWER, f'apfs-space-check: {device}: a block device is never written to\n'))
         self.assertEqual(self.read('disk.img'), bytes(sample()))
 
     def test_a_disk_that_refuses_reads(self):
@@ -296,7 +299,7 @@ class Devices(CommandTest):
         os.truncate(self.path(image), BLOCK)
         good = self.write('good.img', sample())
         status, out, err = self.run_command(device, good)
-        self.assertEqual(status, UNREADABLE)
+        self.assertEqual(status, NO_ANSWER)
         self.assertIn(f'{device}: the disk refused a read', err)
         self.assertTrue(out.startswith('space check  good.img  xid 7'), out)
         answer = self.json_of(device)
@@ -309,6 +312,7 @@ class Meanwhile(CommandTest):
 
     def started(self, superblocks):
         """The command and its child, stopped in the middle of the check."""
+        self.needs('pgrep')
         image = self.write('slow.img', slow(superblocks))
         run = subprocess.Popen([COMMAND, image], cwd=self.folder, stdout=subprocess.PIPE, stderr=subprocess.PIPE, text=True)
         self.addCleanup(run.communicate)
@@ -328,7 +332,7 @@ class Meanwhile(CommandTest):
         os.truncate(self.path('slow.img'), BLOCK)
         os.kill(child, signal.SIGCONT)
         out, err = run.communicate(timeout=300)
-        self.assertEqual((run.returncode, out), (UNREADABLE, ''))
+        self.assertEqual((run.returncode, out), (NO_ANSWER, ''))
         self.assertIn('slow.img: the disk refused a read, or the file was cut short while it was checked', err)
 
     def test_the_image_is_written_to(self):
@@ -340,7 +344,7 @@ class Meanwhile(CommandTest):
         os.utime(self.path('slow.img'), ns=(before.st_atime_ns, before.st_mtime_ns))
         os.kill(child, signal.SIGCONT)
         out, err = run.communicate(timeout=300)
-        self.assertEqual((run.returncode, out), (UNREADABLE, ''))
+        self.assertEqual((run.returncode, out), (NO_ANSWER, ''))
         self.assertIn('slow.img: it was changed while it was checked', err)
 
     def test_the_command_is_ended(self):
@@ -357,7 +361,7 @@ class Meanwhile(CommandTest):
         run, child = self.started(20000)
         os.kill(child, signal.SIGKILL)
         out, err = run.communicate(timeout=300)
-        self.assertEqual((run.returncode, out), (UNREADABLE, ''))
+        self.assertEqual((run.returncode, out), (NO_ANSWER, ''))
         self.assertIn('slow.img: the check ended without an answer (signal: 9', err)
 
 

@@ -10,17 +10,18 @@ import subprocess
 import unittest
 import zlib
 
-from support import (BLOCK, COMMAND, CONSISTENT, INCONSISTENT, REFUSED, ROOT, SAMPLE, UNREADABLE, CommandTest, known,
-                     lost_and_leaked, sample)
+from support import (BLOCK, COMMAND, CONSISTENT, DONE, INCONSISTENT, KINDS, LOGGED, NO_ANSWER, OPERATORS_PAGE, REFUSALS, REFUSED,
+                     ROOT, SAMPLE, CommandTest, figure, known, lost_and_leaked, overlap_blocks, page_rows, problem_blocks, sample)
 
 MIB = 1 << 20
-# the colours that docs/OPERATOR.md names
-FREE, LEAKED, PROBLEM, LOST, TWICE = 'e5e7eb', 'f59e0b', '92400e', 'dc2626', 'ff00ff'
-# in the legend's order
-NAMES = ['claimed twice', 'in use but marked free (lost)', 'internal-pool problem', 'marked, no owner found (leaked)',
-         'container superblock', 'checkpoint descriptor area', 'checkpoint data area', 'internal pool',
-         'internal-pool bitmap ring', 'object map', 'object map node', 'volume superblock', 'free queue (pending release)', 'free']
-OWNERS = ['1f2937', '1d4ed8', '60a5fa', '0f766e', '5ed4c4', '6d28d9', 'a78bfa', '15803d', '86d99c']
+# by what docs/OPERATOR.md says of them
+COLOURS = {meaning: colour for colour, meaning in page_rows(r'[a-z ]+ \| `([0-9a-f]{6})` \| ([^:|]*?)(?:: .*?)?')}
+TWICE, LOST, PROBLEM, LEAKED = (COLOURS[what] for what in ('claimed twice', 'lost', 'internal-pool problem', 'leaked'))
+FREE = COLOURS['free']
+OWNERS = {number: COLOURS[f'{number}, {name}'] for number, name in KINDS.items()}
+# as the legend has them
+NAMES = {TWICE: 'claimed twice', LOST: 'in use but marked free (lost)', PROBLEM: 'internal-pool problem',
+         LEAKED: 'marked, no owner found (leaked)', **{OWNERS[number]: name for number, name in KINDS.items()}, FREE: 'free'}
 
 
 def text_chunks(png):
@@ -41,7 +42,7 @@ def colour_of(byte):
     """What a block of the map is drawn as."""
     owner, marked = byte & 15, byte & 16
     if owner and marked:
-        return OWNERS[owner - 1]
+        return OWNERS[owner]
     return LOST if owner else LEAKED if marked else FREE
 
 
@@ -95,8 +96,8 @@ class Decoded:
 
     def legend(self):
         """The text beside each colour."""
-        lines = ((x, self.height - self.MARGIN - i * self.LINE) for x in (self.MARGIN, self.width // 2) for i in range(1, 8))
-        return {self.point(x, y): self.text(x + 26, y) for x, y in lines}
+        heights = [self.height - self.MARGIN - i * self.LINE for i in range(1, (len(NAMES) + 1) // 2 + 1)]
+        return {self.point(x, y): self.text(x + 26, y) for x in (self.MARGIN, self.width // 2) for y in heights}
 
 
 class Pictures(CommandTest):
@@ -110,7 +111,7 @@ class Pictures(CommandTest):
 
     def legend_agrees(self, picture, expected, more=None):
         """Every colour has its name, and the number of blocks drawn so."""
-        names = dict(zip([TWICE, LOST, PROBLEM, LEAKED, *OWNERS, FREE], NAMES))
+        names = dict(NAMES)
         for colour, after in (more or {}).items():
             names[colour] += after
         self.assertEqual(picture.legend(), {colour: f'{name}: {expected.count(colour)}' for colour, name in names.items()})
@@ -120,7 +121,7 @@ class Pictures(CommandTest):
         self.assertEqual((picture.cells['blocks'], picture.cells['columns']), (1, 16))
         expected = [colour_of(byte) for byte in blocks]
         self.assertEqual([picture.cell(i) for i in range(16)], expected)
-        self.assertEqual(expected[8:11], [OWNERS[5], LOST, LEAKED])
+        self.assertEqual(expected[8:11], [OWNERS[6], LOST, LEAKED])
         self.assertEqual(picture.marks(0), {LOST})
         self.legend_agrees(picture, expected)
         self.assertEqual((picture.text(16, 16), picture.text(16, 34)), ('disk.img', 'xid 7'))
@@ -134,20 +135,21 @@ class Pictures(CommandTest):
         """Images of the list with overlaps and problems: the blocks named are drawn so, whoever owns them."""
         drawn, cut = {TWICE: 0, PROBLEM: 0}, 0
         for v in known():
-            problems, overlaps = v['answer'][4], v['answer'][28]
+            problems, overlaps = figure(v, 'PROBLEMS'), figure(v, 'OVERLAPS')
             if problems == 0 and overlaps == 0:
                 continue
             picture, blocks = self.drawn(self.write('disk.img', v['image']))
             expected = [colour_of(byte) for byte in blocks]
-            marks = [(block, PROBLEM) for block in v['answer'][5:25][1::2][:problems] if block < len(blocks)]
-            marks += [(block, TWICE) for block in v['answer'][29:59:3][:overlaps]]
+            marks = [(block, PROBLEM) for block in problem_blocks(v) if block < len(blocks)]
+            marks += [(block, TWICE) for block in overlap_blocks(v)]
             # the louder colour stays: twice, lost, problem
             for block, colour in marks:
-                expected[block] = max(expected[block], colour, key=[FREE, LEAKED, *OWNERS, PROBLEM, LOST, TWICE].index)
+                expected[block] = max(expected[block], colour, key=[FREE, LEAKED, *OWNERS.values(), PROBLEM, LOST, TWICE].index)
                 drawn[colour] += 1
             self.assertEqual(picture.cells['blocks'], 1, v['name'])
             self.assertEqual([picture.cell(i) for i in range(len(blocks))], expected, v['name'])
-            more = {colour: f', first 10 of {n}' for colour, n in ((PROBLEM, problems), (TWICE, overlaps)) if n > 10}
+            logs = (PROBLEM, problems), (TWICE, overlaps)
+            more = {colour: f', first {LOGGED} of {n}' for colour, n in logs if n > LOGGED}
             self.legend_agrees(picture, expected, more)
             cut += bool(more)
         self.assertGreater(min(*drawn.values(), cut), 5)
@@ -164,7 +166,7 @@ class Pictures(CommandTest):
             if len(classes) == 1:
                 self.assertEqual({picture.cell(i)}, classes, i)
                 seen |= classes
-        self.assertLessEqual({FREE, OWNERS[1], OWNERS[2]}, seen)
+        self.assertLessEqual({FREE, OWNERS[2], OWNERS[3]}, seen)
         leaked = [i for i, byte in enumerate(blocks) if colour_of(byte) == LEAKED]
         self.assertTrue(leaked)
         self.assertEqual({picture.cell(block // each) for block in leaked}, {LEAKED})
@@ -195,19 +197,19 @@ class WrittenFiles(CommandTest):
         for option in '--map', '--picture':
             for name in names:
                 status, out, err = self.run_command(image, option, name)
-                self.assertEqual((status, out), (UNREADABLE, ''))
+                self.assertEqual((status, out), (NO_ANSWER, ''))
                 self.assertEqual(err, f'apfs-space-check: {name}: it is there already, and is not written over\n')
         self.assertEqual([self.read(name) for name in names], before)
 
     def test_files_that_make_no_sense(self):
         image = self.write('disk.img', sample())
-        self.assertEqual(self.run_command(image, image, '--map', 'map')[0], UNREADABLE)
+        self.assertEqual(self.run_command(image, image, '--map', 'map')[0], NO_ANSWER)
         for other in 'same', './same', os.path.join(self.folder, 'same'):
-            self.assertEqual(self.run_command(image, '--map', 'same', '--picture', other)[0], UNREADABLE)
+            self.assertEqual(self.run_command(image, '--map', 'same', '--picture', other)[0], NO_ANSWER)
         for option in '--map', '--picture':
             for name, reason in ('absent/file', 'No such file or directory'), ('/dev/full', 'No space left on device'):
                 status, out, err = self.run_command(image, option, name)
-                self.assertEqual((status, out.count('consistent')), (UNREADABLE, 1))
+                self.assertEqual((status, out.count('consistent')), (NO_ANSWER, 1))
                 self.assertIn(f'{name}: {reason}', err)
         self.assertEqual(os.listdir(self.folder), [image])
 
@@ -237,7 +239,7 @@ class WrittenFiles(CommandTest):
         for option in '--map', '--picture':
             # Python ignores the signal that comes with the limit, and so does what it starts
             done = self.limited(image, option, 'file', restore_signals=False)
-            self.assertEqual(done.returncode, UNREADABLE)
+            self.assertEqual(done.returncode, NO_ANSWER)
             self.assertIn(b'apfs-space-check: file: File too large', done.stderr)
             self.assertEqual(os.listdir(self.folder), [image])
 
@@ -245,7 +247,7 @@ class WrittenFiles(CommandTest):
         """It has printed its answer by then, which counts no more, and has begun a file, which is removed."""
         image = self.write('disk.img', sample())
         done = self.limited('--json', image, '--map', 'file', restore_signals=True)
-        self.assertEqual((done.returncode, done.stdout.count(b'\n')), (UNREADABLE, 1))
+        self.assertEqual((done.returncode, done.stdout.count(b'\n')), (NO_ANSWER, 1))
         self.assertEqual(json.loads(done.stdout)['answer'], 'unreadable')
         self.assertEqual(os.listdir(self.folder), [image])
 
@@ -261,14 +263,14 @@ class Texts(CommandTest):
     def options(self):
         """Every long option that --help names."""
         status, out, err = self.run_command('--help')
-        self.assertEqual((status, err), (CONSISTENT, ''))
+        self.assertEqual((status, err), (DONE, ''))
         options = set(re.findall(r'^ .*?(--[a-z]+)', out, re.MULTILINE))
         self.assertEqual(len(options), 10, options)
         return options
 
     def test_version(self):
         status, out, err = self.run_command('--version')
-        self.assertEqual((status, err), (CONSISTENT, ''))
+        self.assertEqual((status, err), (DONE, ''))
         self.assertRegex(out, r'^apfs-space-check \d+\.\d+\.\d+\n$')
 
     def test_quiet(self):
@@ -279,25 +281,26 @@ class Texts(CommandTest):
         self.assertIn('absent', self.run_command('--quiet', 'absent')[2])
 
     def test_explanations(self):
-        with open(os.path.join(ROOT, 'docs', 'OPERATOR.md'), encoding='utf-8') as file:
-            page = file.read()
+        numbers = set(REFUSALS.values())
         sentences = set()
-        for number in range(1, 23):
+        for number in numbers:
             status, out, err = self.run_command('--explain', str(number))
-            self.assertEqual((status, err, out.count('\n')), (CONSISTENT, '', 1))
+            self.assertEqual((status, err, out.count('\n')), (DONE, '', 1))
             meaning, _, advice = out.removeprefix(f'refused {number}: ').strip().partition('; ')
             row = f'| {number} | {meaning} | {advice} |'
-            self.assertTrue(row in page, row)
+            self.assertTrue(row in OPERATORS_PAGE, row)
             sentences.add(meaning)
-        self.assertEqual(len(sentences), 22)
-        for wrong in '0', '23', 'x':
-            self.assertEqual(self.run_command('--explain', wrong)[0], UNREADABLE)
+        self.assertEqual(len(sentences), len(numbers))
+        for wrong in *(set(range(max(numbers) + 2)) - numbers), 'x':
+            status, out, err = self.run_command('--explain', str(wrong))
+            self.assertEqual((status, out), (NO_ANSWER, ''))
+            self.assertIn('no refusal has this number', err)
 
     def test_wrong_command_lines(self):
         for arguments in [], ['--nothing', SAMPLE], ['--offset', '1', '--partition', '2', SAMPLE], ['--json', '--quiet', SAMPLE], \
                 ['--explain', '5', SAMPLE], ['--offset', '-1', SAMPLE]:
             status, out, err = self.run_command(*arguments)
-            self.assertEqual((status, out), (UNREADABLE, ''), arguments)
+            self.assertEqual((status, out), (NO_ANSWER, ''), arguments)
             self.assertIn('error:', err)
 
     def test_manual_page(self):
@@ -310,7 +313,7 @@ class Texts(CommandTest):
     def test_completions(self):
         for shell in 'bash', 'zsh', 'fish':
             status, out, _ = self.run_command('--completions', shell)
-            self.assertEqual(status, CONSISTENT)
+            self.assertEqual(status, DONE)
             for option in self.options():
                 self.assertIn(option.removeprefix('--'), out)
         self.must('bash', '-n', input=self.run_command('--completions', 'bash')[1].encode())
@@ -320,10 +323,10 @@ class Texts(CommandTest):
         os.close(reader)
         done = subprocess.run([COMMAND, SAMPLE], stdout=writer, stderr=subprocess.PIPE, check=False)
         os.close(writer)
-        self.assertEqual((done.returncode, done.stderr), (UNREADABLE, b''))
+        self.assertEqual((done.returncode, done.stderr), (NO_ANSWER, b''))
         with open('/dev/full', 'wb') as full:
             done = subprocess.run([COMMAND, SAMPLE], stdout=full, stderr=subprocess.PIPE, check=False)
-        self.assertEqual(done.returncode, UNREADABLE)
+        self.assertEqual(done.returncode, NO_ANSWER)
         self.assertIn(b'standard output: No space left on device', done.stderr)
 
 

@@ -6,7 +6,7 @@
 use std::path::PathBuf;
 use std::{env, fs, process};
 
-/// Names the folder of the sources; the default is `../shared/docs/src` beside the repository.
+/// Names the folder of the sources.
 const VARIABLE: &str = "WINAPFS_SOURCES";
 
 /// One change of one file: the text from `from` up to `upto` (all of `from` where `upto` is empty) becomes `instead`.
@@ -34,15 +34,15 @@ pub fn assemble(name: &str, files: &[&str], cuts: &[Cut]) {
 
 fn sources() -> PathBuf {
     println!("cargo:rerun-if-env-changed={VARIABLE}");
+    let Some(named) = env::var_os(VARIABLE).filter(|path| !path.is_empty()) else {
+        stop(&format!("set {VARIABLE} to the folder that holds the original's crates/ (compare/README.md)"));
+    };
     let manifest = PathBuf::from(env::var("CARGO_MANIFEST_DIR").expect("cargo sets CARGO_MANIFEST_DIR"));
     let repository = manifest.ancestors().nth(3).expect("this stands in compare/original/ of the repository");
     // A relative path counts from the repository's root, wherever cargo was started.
-    let path = repository.join(env::var(VARIABLE).unwrap_or_else(|_| "../shared/docs/src".into()));
+    let path = repository.join(named);
     if !path.join("crates").is_dir() {
-        stop(&format!(
-            "the original's sources are not at {}: set {VARIABLE} to the folder that holds its crates/",
-            path.display()
-        ));
+        stop(&format!("{VARIABLE} is {}, which holds no crates/ of the original", path.display()));
     }
     path
 }

@@ -1,40 +1,7 @@
-//! What one run answers: a refusal's number, or a report of 78 figures.
+//! What one run answers: a refusal, or a report.
 
-/// The claiming kinds, by their numbers from 1.
-pub const KINDS: [&str; 9] = [
-    "container superblock",
-    "checkpoint descriptor area",
-    "checkpoint data area",
-    "internal pool",
-    "internal-pool bitmap ring",
-    "object map",
-    "object map node",
-    "volume superblock",
-    "free queue (pending release)",
-];
-
-/// The problem kinds, by their numbers from 1.
-pub const PROBLEMS: [&str; 5] = [
-    "chunk-info block unmarked",
-    "chunk bitmap unmarked",
-    "chunk bitmap already used",
-    "queued block unmarked",
-    "queued block already used",
-];
-
-pub const CONSISTENT: u64 = 1;
-pub const INCONSISTENT: u64 = 2;
-
-/// So many problems and so many overlaps are listed.
-pub const LISTED: usize = 10;
-
-/// An answer is so many numbers.
-pub const NUMBERS: usize = 79;
-
-/// The block map's byte: owner in its low four bits.
-pub const OWNER: u8 = 0x0f;
-pub const MARKED: u8 = 0x10;
-pub const POOL_USED: u8 = 0x20;
+use space_check::places::{self, OVERLAP_NUMBERS, PROBLEM_NUMBERS};
+use space_check::{Kind, Refusal, FIGURES, LOGGED};
 
 #[derive(Clone, Copy, Debug, Default, PartialEq, Eq)]
 pub struct Problem {
@@ -56,26 +23,28 @@ pub struct Lost {
     pub first: u64,
 }
 
+/// Kinds and problems are their numbers, 0 in places that nothing fills.
 #[derive(Clone, Debug, Default, PartialEq, Eq)]
 pub struct Report {
     pub xid: u64,
     pub pool_used: u64,
     pub pool_unused: u64,
     pub problems: u64,
-    pub first_problems: [Problem; LISTED],
+    pub first_problems: [Problem; LOGGED],
     pub free: u64,
-    pub wrong_counts: u64,
+    pub wrong_chunks: u64,
     pub device_free: u64,
     pub overlaps: u64,
-    pub first_overlaps: [Overlap; LISTED],
-    pub lost: [Lost; KINDS.len()],
+    pub first_overlaps: [Overlap; LOGGED],
+    /// By the kinds' numbers from 1.
+    pub lost: [Lost; Kind::ALL.len()],
     pub leaked: u64,
     pub verdict: u64,
 }
 
 #[derive(Clone, Debug, PartialEq, Eq)]
 pub enum Answer {
-    Refused(u64),
+    Refused(Refusal),
     Reported(Box<Report>),
 }
 
@@ -84,45 +53,75 @@ impl Report {
         self.lost.iter().map(|l| l.count).sum()
     }
 
-    fn figures(&self) -> Vec<u64> {
-        let mut out = vec![self.xid, self.pool_used, self.pool_unused, self.problems];
-        out.extend(self.first_problems.iter().flat_map(|p| [p.kind, p.block]));
-        out.extend([self.free, self.wrong_counts, self.device_free, self.overlaps]);
-        out.extend(self.first_overlaps.iter().flat_map(|o| [o.block, o.owner, o.claimant]));
-        out.extend(self.lost.iter().map(|l| l.count));
-        out.extend(self.lost.iter().map(|l| l.first));
-        out.extend([self.leaked, self.verdict]);
-        out
+    fn numbers(&self) -> Vec<u64> {
+        let mut numbers = vec![0; FIGURES];
+        numbers[places::XID] = self.xid;
+        numbers[places::POOL_USED] = self.pool_used;
+        numbers[places::POOL_UNUSED] = self.pool_unused;
+        numbers[places::PROBLEMS] = self.problems;
+        for (at, p) in (places::PROBLEM..).step_by(PROBLEM_NUMBERS).zip(&self.first_problems) {
+            numbers[at..][..PROBLEM_NUMBERS].copy_from_slice(&[p.kind, p.block]);
+        }
+        numbers[places::FREE] = self.free;
+        numbers[places::WRONG_CHUNKS] = self.wrong_chunks;
+        numbers[places::DEVICE_FREE] = self.device_free;
+        numbers[places::OVERLAPS] = self.overlaps;
+        for (at, o) in (places::OVERLAP..).step_by(OVERLAP_NUMBERS).zip(&self.first_overlaps) {
+            numbers[at..][..OVERLAP_NUMBERS].copy_from_slice(&[o.block, o.owner, o.claimant]);
+        }
+        for (&kind, lost) in Kind::ALL.iter().zip(&self.lost) {
+            numbers[places::lost(kind)] = lost.count;
+            numbers[places::first_lost(kind)] = lost.first;
+        }
+        numbers[places::LEAKED] = self.leaked;
+        numbers[places::VERDICT] = self.verdict;
+        numbers
     }
 }
 
 impl Answer {
-    /// The refusal's number or 0, then the report's figures, all 0 after a refusal.
+    /// Each at its place: the refusal's number or 0, then the report's figures, all 0 after a refusal.
     pub fn numbers(&self) -> Vec<u64> {
-        let mut out = Vec::with_capacity(NUMBERS);
         match self {
-            Answer::Refused(number) => {
-                out.push(*number);
-                out.resize(NUMBERS, 0);
+            Answer::Refused(refusal) => {
+                let mut numbers = vec![0; FIGURES];
+                numbers[places::REFUSAL] = refusal.number();
+                numbers
             }
-            Answer::Reported(report) => {
-                out.push(0);
-                out.extend(report.figures());
-            }
+            Answer::Reported(report) => report.numbers(),
         }
-        out
     }
 }
 
 #[cfg(test)]
 mod tests {
     use super::*;
+    use space_check::{Log, Problem as Named, ProblemKind, Report as Read, Verdict};
 
     #[test]
-    fn an_answer_has_79_numbers() {
-        assert_eq!(Answer::Refused(9).numbers().len(), NUMBERS);
-        let report = Report { verdict: CONSISTENT, ..Report::default() };
-        let numbers = Answer::Reported(Box::new(report)).numbers();
-        assert_eq!((numbers.len(), numbers[NUMBERS - 1]), (NUMBERS, CONSISTENT));
+    fn the_numbers_can_be_read_back() {
+        let mut report = Report { verdict: Verdict::Inconsistent.number(), ..Report::default() };
+        (report.xid, report.problems, report.overlaps) = (7, 1, 11);
+        report.first_problems[0] = Problem { kind: ProblemKind::BitmapUsed.number(), block: 6 };
+        report.first_overlaps = [Overlap { block: 5, owner: 2, claimant: 9 }; LOGGED];
+        report.lost[Kind::FreeQueue.number() as usize - 1] = Lost { count: 3, first: 8 };
+        (report.free, report.leaked) = (4, 10);
+        let numbers = Answer::Reported(Box::new(report)).numbers().try_into().expect("as many as figures");
+        let read = Read::of_figures(&numbers).expect("a report");
+        assert_eq!(read.problems, Log { total: 1, first: vec![Named { kind: ProblemKind::BitmapUsed, block: 6 }] });
+        assert_eq!((read.overlaps.total, read.overlaps.first.len(), read.lost_blocks()), (11, LOGGED, 3));
+        assert_eq!((read.xid, read.free, read.leaked, read.verdict), (7, 4, 10, Verdict::Inconsistent));
+        let last = read.lost.last().expect("a kind");
+        assert_eq!((last.kind, last.first), (Kind::FreeQueue, Some(8)));
+    }
+
+    #[test]
+    fn a_refusal_is_its_number_alone() {
+        let numbers = Answer::Refused(Refusal::NoCheckpoint).numbers();
+        assert_eq!(
+            Read::of_figures(&numbers.clone().try_into().expect("as many as figures")),
+            Err(Refusal::NoCheckpoint)
+        );
+        assert!(numbers[1..].iter().all(|&n| n == 0));
     }
 }

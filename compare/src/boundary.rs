@@ -3,12 +3,14 @@
 //! Where the original isn't asked nothing shows that a refusal comes too early, but an image on its near side, on which
 //! the original is asked.
 
+use space_check::Refusal;
+
 use crate::draft::Draft;
 use crate::fields::{manager, superblock};
 use crate::image::Image;
 use crate::model::{HIGHEST_COUNT, WALK_LEVELS};
+use crate::outside::Outside;
 use crate::recipes::{area_to_end, chain_of, queue_entry, queue_ghost, repeats_of};
-use crate::refusal::Refusal;
 use crate::rng::Rng;
 use crate::seeds::Base;
 use crate::survey::Role;
@@ -18,80 +20,95 @@ type Side = fn(&mut Draft) -> Option<String>;
 
 pub struct Boundary {
     pub name: &'static str,
-    /// The refusal on the far side.
-    pub refusal: Refusal,
+    /// What the far side meets.
+    pub rule: Outside,
     near: Side,
     far: Side,
 }
 
 pub const BOUNDARIES: &[Boundary] = &[
-    Boundary { name: "lowest count", refusal: Refusal::BlockCount, near: |d| count(d, 1), far: |d| count(d, 0) },
+    Boundary {
+        name: "lowest count",
+        rule: Outside::Added(Refusal::BlockCount),
+        near: |d| count(d, 1),
+        far: |d| count(d, 0),
+    },
     Boundary {
         name: "highest count",
-        refusal: Refusal::BlockCount,
+        rule: Outside::Added(Refusal::BlockCount),
         near: |d| count(d, HIGHEST_COUNT),
         far: |d| count(d, HIGHEST_COUNT + 1),
     },
-    Boundary { name: "image", refusal: Refusal::ImageBelowCount, near: |d| image(d, 0), far: |d| image(d, 1) },
-    Boundary { name: "map", refusal: Refusal::MapBelowCount, near: |d| map(d, 0), far: |d| map(d, 1) },
+    Boundary {
+        name: "image",
+        rule: Outside::Added(Refusal::MissingBlocks),
+        near: |d| image(d, 0),
+        far: |d| image(d, 1),
+    },
+    Boundary { name: "map", rule: Outside::Added(Refusal::ShortMap), near: |d| map(d, 0), far: |d| map(d, 1) },
     Boundary {
         name: "descriptor area",
-        refusal: Refusal::DescriptorArea,
+        rule: Outside::Added(Refusal::DescriptorArea),
         near: |d| area_to_end(d, 0),
         far: |d| area_to_end(d, 1),
     },
     Boundary {
         name: "lower count",
-        refusal: Refusal::CountDiffers,
+        rule: Outside::Added(Refusal::CountDiffers),
         near: |d| superblock_count(d, d.survey.count),
         far: |d| superblock_count(d, d.survey.count - 1),
     },
     Boundary {
         name: "higher count",
-        refusal: Refusal::CountDiffers,
+        rule: Outside::Added(Refusal::CountDiffers),
         near: |d| superblock_count(d, d.survey.count),
         far: |d| superblock_count(d, d.survey.count + 1),
     },
     Boundary {
         name: "taken count",
-        refusal: Refusal::CountDiffers,
+        rule: Outside::Added(Refusal::CountDiffers),
         near: |d| count_of_superblock(d, 1),
         far: |d| count_of_superblock(d, 0),
     },
     Boundary {
         name: "address blocks",
-        refusal: Refusal::AddressBlocks,
+        rule: Outside::Added(Refusal::AddressBlocks),
         near: |d| address_blocks(d, 0),
         far: |d| address_blocks(d, 1),
     },
     Boundary {
         name: "queued block",
-        refusal: Refusal::QueuedPastCount,
+        rule: Outside::QueuedPastCount,
         near: |d| queued(d, d.survey.count - 1, 1),
         far: |d| queued(d, d.survey.count, 1),
     },
     Boundary {
         name: "queued blocks",
-        refusal: Refusal::QueuedPastCount,
+        rule: Outside::QueuedPastCount,
         near: |d| queued(d, 1, d.survey.count - 1),
         far: |d| queued(d, 1, d.survey.count),
     },
     Boundary {
         name: "queued nothing",
-        refusal: Refusal::QueuedPastCount,
+        rule: Outside::QueuedPastCount,
         near: |d| queued(d, d.survey.count, 0),
         far: |d| queued(d, d.survey.count + 1, 0),
     },
     Boundary {
         name: "queued ghost",
-        refusal: Refusal::QueuedPastCount,
+        rule: Outside::QueuedPastCount,
         near: |d| queue_ghost(d, Role::PoolQueueNode, d.survey.count - 1),
         far: |d| queue_ghost(d, Role::PoolQueueNode, d.survey.count),
     },
-    Boundary { name: "nodes", refusal: Refusal::Walk, near: |d| repeats_of(d, 0), far: |d| repeats_of(d, 1) },
+    Boundary {
+        name: "nodes",
+        rule: Outside::Added(Refusal::TooManyNodes),
+        near: |d| repeats_of(d, 0),
+        far: |d| repeats_of(d, 1),
+    },
     Boundary {
         name: "levels",
-        refusal: Refusal::Walk,
+        rule: Outside::Added(Refusal::TooManyNodes),
         near: |d| chain_of(d, WALK_LEVELS),
         far: |d| chain_of(d, WALK_LEVELS + 1),
     },
@@ -106,7 +123,7 @@ impl Boundary {
     fn image(&self, base: &Base, side: &str, make: Side) -> Option<Image> {
         let mut draft = Draft { image: base.image(), survey: &base.survey, rng: &mut Rng::new(base.number) };
         let made = make(&mut draft)?;
-        draft.note(&format!("{side} side of {}, {}", self.refusal.number(), self.name), &made);
+        draft.note(&format!("{side} side of {}, {}", self.rule.refusal().number(), self.name), &made);
         Some(draft.image)
     }
 }
@@ -166,7 +183,7 @@ mod tests {
             let images = (0..500).find_map(|number| boundary.images(&Base::build(number)));
             let refusals = images.expect("some container has a place for it").map(|image| {
                 let pass = check(&image.bytes, &mut Fill::Listed.map(image.map_length));
-                pass.refusal == Some(boundary.refusal)
+                pass.notes.outside == Some(boundary.rule)
             });
             assert_eq!(refusals, [false, true], "{}", boundary.name);
         }

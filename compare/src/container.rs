@@ -4,6 +4,7 @@ use crate::fields::{
     checkpoint_map, chunk, chunk_info, manager as m, mapped, mapping, object, object_map, put, queue, superblock as s,
 };
 use crate::fletcher::seal;
+use crate::free_list::FreeList;
 use crate::nodes::{bytes_of, Entry, Sizes, Tree};
 use crate::places::Places;
 use crate::rng::Rng;
@@ -15,9 +16,6 @@ const OTHER_ID: u64 = 0x401;
 const POOL_QUEUE_ID: u64 = 0x410;
 const MAIN_QUEUE_ID: u64 = 0x440;
 const VOLUME_ID: u64 = 0x480;
-/// Stored beside the kind in a type: an ephemeral and a physical object.
-const EPHEMERAL: u64 = 0x8000_0000;
-const PHYSICAL: u64 = 0x4000_0000;
 /// Set in an area's length, it says that the area isn't one piece.
 const TOP_BIT: u64 = 0x8000_0000;
 
@@ -55,6 +53,7 @@ pub fn build(shape: &Shape, rng: &mut Rng) -> Vec<u8> {
 struct Infos {
     addresses: Vec<u64>,
     indices: Vec<u64>,
+    free_list: FreeList,
     pool_count: u64,
     /// Where the pool's queued blocks begin.
     queued: u64,
@@ -72,8 +71,8 @@ impl Build<'_> {
         let block = self.block(at);
         object::ID.set(block, at);
         object::XID.set(block, xid);
-        object::TYPE.set(block, object::OBJECT_MAP | PHYSICAL);
-        object_map::TREE_TYPE.set(block, object::ROOT_NODE | PHYSICAL);
+        object::TYPE.set(block, object::OBJECT_MAP | object::PHYSICAL);
+        object_map::TREE_TYPE.set(block, object::ROOT_NODE | object::PHYSICAL);
         object_map::ROOT.set(block, root);
         seal(block);
         let size = (self.shape.block_size as u64) << 32;
@@ -81,7 +80,7 @@ impl Build<'_> {
         let mut entries: Vec<Entry> = Vec::new();
         for i in 0..self.shape.mapping_entries() {
             let volume = if Shape::is_ghost(i) { None } else { volumes.next() };
-            let flags = if self.rng.chance(20) { mapped::DELETED } else { 0 };
+            let flags = if self.shape.deletes && self.rng.chance(50) { mapped::DELETED } else { 0 };
             entries.push((bytes_of(&[VOLUME_ID + i, xid]), volume.map(|&address| bytes_of(&[size | flags, address]))));
         }
         let leaves = (0..self.shape.object_map.leaves())
@@ -113,6 +112,7 @@ impl Build<'_> {
         let mut infos = Infos {
             addresses: Vec::new(),
             indices: Vec::new(),
+            free_list: FreeList::through(&[], 0),
             pool_count: shape.pool_blocks(),
             queued: pool,
             free: 0,
@@ -153,7 +153,7 @@ impl Build<'_> {
         }
         let block = self.block(address);
         object::XID.set(block, xid);
-        object::TYPE.set(block, object::CHUNK_INFO | PHYSICAL);
+        object::TYPE.set(block, object::CHUNK_INFO | object::PHYSICAL);
         chunk_info::COUNT.set(block, bitmaps.len() as u64);
         taken
     }
@@ -172,12 +172,13 @@ impl Build<'_> {
         }
         let mut indices: Vec<u64> = (0..shape.bitmap_blocks()).collect();
         self.rng.shuffle(&mut indices);
-        indices.truncate(shape.bitmap_slots as usize);
+        let unused = indices.split_off(shape.bitmap_slots as usize);
         for (part, &index) in bits.chunks(shape.block_size * 8).zip(&indices) {
             let address = self.places.bitmaps + index;
             set_bits(self.block(address), part);
         }
         infos.indices = indices;
+        infos.free_list = FreeList::through(&unused, shape.bitmap_blocks());
     }
 
     /// Managers and queue nodes, somewhere in the ring.
@@ -211,7 +212,9 @@ impl Build<'_> {
     /// A manager's bytes, its lists wherever there is room; `number` tells it from the other checkpoints'.
     fn manager(&mut self, infos: &Infos, number: u64) -> Vec<u8> {
         let (shape, places) = (self.shape, &self.places);
-        let lists = infos.indices.len() * m::INDEX_WIDTH + infos.addresses.len() * m::ADDRESS_WIDTH;
+        let indices = infos.indices.len() * m::INDEX_WIDTH;
+        let addresses = infos.addresses.len() * m::ADDRESS_WIDTH;
+        let lists = indices + addresses + infos.free_list.length();
         let whole = shape.manager_blocks as usize * shape.block_size;
         let least = (m::LENGTH + lists).max(whole - shape.block_size + 4);
         let length = if self.rng.chance(50) { whole } else { least.next_multiple_of(4) };
@@ -221,11 +224,11 @@ impl Build<'_> {
         } else {
             self.rng.between(m::LENGTH as u64, (length - lists) as u64) as usize
         };
-        let info_offset = index_offset + infos.indices.len() * m::INDEX_WIDTH;
+        let info_offset = index_offset + indices;
         let mut bytes = vec![0; length];
         object::ID.set(&mut bytes, MANAGER_ID);
         object::XID.set(&mut bytes, self.xid);
-        object::TYPE.set(&mut bytes, object::MANAGER | EPHEMERAL);
+        object::TYPE.set(&mut bytes, object::MANAGER | object::EPHEMERAL);
         let fields = [
             (m::CHUNK_INFO_COUNT, infos.addresses.len() as u64),
             (m::FREE_COUNT, infos.free + number),
@@ -246,6 +249,7 @@ impl Build<'_> {
         for (i, &address) in infos.addresses.iter().enumerate() {
             put(&mut bytes, info_offset + i * m::ADDRESS_WIDTH, m::ADDRESS_WIDTH, address);
         }
+        infos.free_list.write(&mut bytes, info_offset + addresses);
         seal(&mut bytes);
         bytes
     }
@@ -305,12 +309,13 @@ impl Build<'_> {
         }
     }
 
+    /// Its volume ids are 0: a pass doesn't read them.
     fn superblock(&mut self, at: u64, xid: u64, index: u64) {
         let (shape, places) = (self.shape, &self.places);
         let fields = [
             (object::ID, 1),
             (object::XID, xid),
-            (object::TYPE, object::SUPERBLOCK | EPHEMERAL),
+            (object::TYPE, object::SUPERBLOCK | object::EPHEMERAL),
             (s::MAGIC, s::NXSB),
             (s::BLOCK_SIZE, shape.block_size as u64),
             (s::BLOCK_COUNT, places.count),
@@ -351,13 +356,13 @@ impl Build<'_> {
             let block = self.block(at);
             object::ID.set(block, at);
             object::XID.set(block, xid);
-            object::TYPE.set(block, object::CHECKPOINT_MAP | PHYSICAL);
+            object::TYPE.set(block, object::CHECKPOINT_MAP | object::PHYSICAL);
             let last = flagged && k + 1 == chain;
             checkpoint_map::FLAGS.set(block, if last { checkpoint_map::LAST } else { 0 });
             checkpoint_map::COUNT.set(block, (ends[1] - ends[0]) as u64);
             for (i, &(id, address, size, kind)) in entries[ends[0]..ends[1]].iter().enumerate() {
                 let entry = checkpoint_map::ENTRIES + i * checkpoint_map::ENTRY;
-                mapping::TYPE.shifted(entry).set(block, kind | EPHEMERAL);
+                mapping::TYPE.shifted(entry).set(block, kind | object::EPHEMERAL);
                 mapping::SIZE.shifted(entry).set(block, size);
                 mapping::ID.shifted(entry).set(block, id);
                 mapping::ADDRESS.shifted(entry).set(block, address);

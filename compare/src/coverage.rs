@@ -3,24 +3,28 @@
 use std::collections::{BTreeMap, BTreeSet};
 use std::fmt;
 
-use crate::answer::{Answer, Report, CONSISTENT, KINDS, LISTED, PROBLEMS};
+use space_check::{Kind, ProblemKind, Refusal, Verdict, LOGGED};
+
+use crate::answer::{Answer, Report};
 use crate::image::Image;
-use crate::judge::{is_due, Judgement};
+use crate::judge::{is_due, Judgement, LAST_UNTOUCHED};
 use crate::messages;
 use crate::model::{Notes, Pass, HIGHEST_COUNT, WALK_LEVELS};
+use crate::outside::Outside;
 use crate::recipes::RECIPES;
-use crate::refusal::{self, Refusal, LAST_UNTOUCHED};
 use crate::worker::Reply;
 
 /// A thing that can happen.
 #[derive(Clone, Debug, PartialEq, Eq, PartialOrd, Ord)]
 pub enum Row {
-    Refusal(u64),
-    Verdict(u64),
-    Problem(u64),
-    Owner(u64),
-    Claimant(u64),
-    Lost(u64),
+    Refusal(Refusal),
+    /// The rule by which the original is no reference.
+    Outside(Outside),
+    Verdict(Verdict),
+    Problem(ProblemKind),
+    Owner(Kind),
+    Claimant(Kind),
+    Lost(Kind),
     Finding(&'static str),
     Recipe(&'static str),
     Shape(String),
@@ -72,7 +76,7 @@ const FINDINGS: [&str; 20] = [
 ];
 
 /// The shapes that have to be met, as the survey names them.
-const SHAPES: [&str; 31] = [
+const SHAPES: [&str; 33] = [
     "block size 4096",
     "block size 8192",
     "block size 16384",
@@ -90,6 +94,8 @@ const SHAPES: [&str; 31] = [
     "data length with its top bit",
     "pool bitmap of several blocks",
     "several chunk-info blocks",
+    "empty free list",
+    "free list of several blocks",
     "chunk of no blocks",
     "node of fixed sizes",
     "node of variable sizes",
@@ -109,14 +115,14 @@ const SHAPES: [&str; 31] = [
 impl fmt::Display for Row {
     fn fmt(&self, f: &mut fmt::Formatter) -> fmt::Result {
         match self {
-            Row::Refusal(n) => write!(f, "refusal {n}: {}", refusal::MEANING[*n as usize - 1]),
-            Row::Verdict(v) => {
-                write!(f, "verdict {v}: {}", if *v == CONSISTENT { "consistent" } else { "inconsistent" })
-            }
-            Row::Problem(k) => write!(f, "problem {k}: {}", PROBLEMS[*k as usize - 1]),
-            Row::Owner(k) => write!(f, "overlap, owner {k}: {}", KINDS[*k as usize - 1]),
-            Row::Claimant(k) => write!(f, "overlap, claimant {k}: {}", KINDS[*k as usize - 1]),
-            Row::Lost(k) => write!(f, "lost {k}: {}", KINDS[*k as usize - 1]),
+            // Its name in words is a sentence.
+            Row::Refusal(refusal) => write!(f, "refusal {}: {refusal:?}", refusal.number()),
+            Row::Outside(rule) => write!(f, "outside by {rule}"),
+            Row::Verdict(verdict) => write!(f, "verdict {}: {verdict}", verdict.number()),
+            Row::Problem(kind) => write!(f, "problem {}: {kind}", kind.number()),
+            Row::Owner(kind) => write!(f, "overlap, owner {}: {kind}", kind.number()),
+            Row::Claimant(kind) => write!(f, "overlap, claimant {}: {kind}", kind.number()),
+            Row::Lost(kind) => write!(f, "lost {}: {kind}", kind.number()),
             Row::Finding(name) => write!(f, "{name}"),
             Row::Recipe(name) => write!(f, "damage: {name}"),
             Row::Shape(name) => write!(f, "shape: {name}"),
@@ -126,13 +132,15 @@ impl fmt::Display for Row {
 
 /// Every row that has to be reached.
 pub fn wanted() -> Vec<Row> {
-    let mut rows: Vec<Row> = (1..=refusal::LAST).map(Row::Refusal).collect();
-    rows.extend((1..=2).map(Row::Verdict));
-    rows.extend((1..=PROBLEMS.len() as u64).map(Row::Problem));
-    // The last kind claims last and owns nothing that another could claim; the first claims an empty map.
-    rows.extend((1..KINDS.len() as u64).map(Row::Owner));
-    rows.extend((2..=KINDS.len() as u64).map(Row::Claimant));
-    rows.extend((1..=KINDS.len() as u64).map(Row::Lost));
+    let kinds = || Kind::ALL.iter().copied();
+    let mut rows: Vec<Row> = Refusal::ALL.iter().copied().map(Row::Refusal).collect();
+    rows.extend(Outside::all().into_iter().map(Row::Outside));
+    rows.extend(Verdict::ALL.iter().copied().map(Row::Verdict));
+    rows.extend(ProblemKind::ALL.iter().copied().map(Row::Problem));
+    // The queue claims last and owns nothing that another could claim; the superblock claims an empty map.
+    rows.extend(kinds().filter(|&kind| kind != Kind::FreeQueue).map(Row::Owner));
+    rows.extend(kinds().filter(|&kind| kind != Kind::ContainerSuperblock).map(Row::Claimant));
+    rows.extend(kinds().map(Row::Lost));
     rows.extend(FINDINGS.map(Row::Finding));
     rows.extend(RECIPES.iter().map(|(name, _)| Row::Recipe(name)));
     rows.extend(SHAPES.map(|name| Row::Shape(name.into())));
@@ -143,15 +151,16 @@ pub fn wanted() -> Vec<Row> {
 pub fn rows(pass: &Pass, image: &Image) -> BTreeSet<Row> {
     let mut rows = BTreeSet::new();
     match &pass.answer {
-        Answer::Refused(number) => {
-            rows.insert(Row::Refusal(*number));
-            rows.extend(refusal_rows(*number, pass));
+        Answer::Refused(refusal) => {
+            rows.insert(Row::Refusal(*refusal));
+            rows.extend(refusal_rows(*refusal, &pass.notes));
         }
         Answer::Reported(report) => {
             report_rows(report, &mut rows);
             rows.extend(noted_rows(&pass.notes));
         }
     }
+    rows.extend(pass.notes.outside.map(Row::Outside));
     rows.extend(held(&[(DAMAGES, image.ways.len() > 1)]));
     rows.extend(RECIPES.iter().filter(|(name, _)| image.ways == [*name]).map(|(name, _)| Row::Recipe(name)));
     if image.ways.is_empty() {
@@ -160,11 +169,10 @@ pub fn rows(pass: &Pass, image: &Image) -> BTreeSet<Row> {
     rows
 }
 
-fn refusal_rows(number: u64, pass: &Pass) -> Vec<Row> {
-    let at_highest = pass.notes.count == HIGHEST_COUNT;
+fn refusal_rows(refusal: Refusal, notes: &Notes) -> Vec<Row> {
     held(&[
-        (LONGER_MAP_REFUSED, number > LAST_UNTOUCHED && !pass.notes.map_exact),
-        (NEAR_4, at_highest && pass.refusal == Some(Refusal::ImageBelowCount)),
+        (LONGER_MAP_REFUSED, refusal > LAST_UNTOUCHED && !notes.map_exact),
+        (NEAR_4, notes.count == HIGHEST_COUNT && refusal == Refusal::MissingBlocks),
     ])
 }
 
@@ -186,17 +194,19 @@ fn noted_rows(notes: &Notes) -> Vec<Row> {
 }
 
 fn report_rows(report: &Report, rows: &mut BTreeSet<Row>) {
-    rows.insert(Row::Verdict(report.verdict));
-    rows.extend(report.first_problems.iter().filter(|p| p.kind != 0).map(|p| Row::Problem(p.kind)));
-    let overlaps = || report.first_overlaps.iter().filter(|o| o.owner != 0);
-    rows.extend(overlaps().map(|o| Row::Owner(o.owner)));
-    rows.extend(overlaps().map(|o| Row::Claimant(o.claimant)));
-    rows.extend((1..).zip(&report.lost).filter(|(_, l)| l.count != 0).map(|(k, _)| Row::Lost(k)));
+    rows.extend(Verdict::from_number(report.verdict).map(Row::Verdict));
+    // Places that nothing fills name no kind.
+    rows.extend(report.first_problems.iter().filter_map(|p| ProblemKind::from_number(p.kind)).map(Row::Problem));
+    rows.extend(report.first_overlaps.iter().filter_map(|o| Kind::from_number(o.owner)).map(Row::Owner));
+    rows.extend(report.first_overlaps.iter().filter_map(|o| Kind::from_number(o.claimant)).map(Row::Claimant));
+    rows.extend(
+        Kind::ALL.iter().zip(&report.lost).filter(|(_, lost)| lost.count != 0).map(|(&kind, _)| Row::Lost(kind)),
+    );
     rows.extend(held(&[
-        (MANY_PROBLEMS, report.problems > LISTED as u64),
-        (MANY_OVERLAPS, report.overlaps > LISTED as u64),
+        (MANY_PROBLEMS, report.problems > LOGGED as u64),
+        (MANY_OVERLAPS, report.overlaps > LOGGED as u64),
         (UNUSED, report.pool_unused > 0),
-        (WRONG_COUNTS, report.wrong_counts > 0),
+        (WRONG_COUNTS, report.wrong_chunks > 0),
         (NO_MATCH, report.free != report.device_free),
         (LEAKED, report.leaked > 0),
     ]));
@@ -213,7 +223,7 @@ struct Tally {
     compared: u64,
     panics: u64,
     aborts: u64,
-    added: u64,
+    outside: u64,
     ways: BTreeSet<String>,
 }
 
@@ -221,8 +231,8 @@ struct Tally {
 pub struct Coverage {
     rows: BTreeMap<Row, Tally>,
     all: Tally,
-    /// How often an error's message told of one refusal where the model gave another, or the same.
-    messages: BTreeMap<(u64, u64), u64>,
+    /// How often an error's message told of one refusal, or of none, where the model gave another, or the same.
+    messages: BTreeMap<(Refusal, Option<Refusal>), u64>,
 }
 
 impl Coverage {
@@ -236,25 +246,22 @@ impl Coverage {
             self.rows.entry(row).or_default().add(judgement, &image.ways);
         }
         self.all.add(judgement, &image.ways);
-        if let (true, Some(Reply::Error(message)), Answer::Refused(number)) =
+        if let (true, Some(Reply::Error(message)), Answer::Refused(refusal)) =
             (is_due(&judgement.pass), &judgement.original, &judgement.pass.answer)
         {
-            *self.messages.entry((*number, messages::number(message))).or_default() += 1;
+            *self.messages.entry((*refusal, messages::refusal(message))).or_default() += 1;
         }
     }
 
     /// How far the original's messages tell of the model's refusals.
     fn write_messages(&self, f: &mut fmt::Formatter) -> fmt::Result {
-        let (same, other): (Vec<_>, Vec<_>) = self.messages.iter().partition(|((model, message), _)| model == message);
-        let sum = |pairs: &[(&(u64, u64), &u64)]| pairs.iter().map(|(_, count)| **count).sum::<u64>();
-        writeln!(
-            f,
-            "errors whose message tells of the model's refusal: {} of {}",
-            sum(&same),
-            sum(&same) + sum(&other)
-        )?;
-        for ((model, message), count) in other {
-            writeln!(f, "  {count} where the model gives {model} and the message tells of {message}")?;
+        let is_same = |((model, message), _): &(&(Refusal, Option<Refusal>), &u64)| *message == Some(*model);
+        let all: u64 = self.messages.values().sum();
+        let same: u64 = self.messages.iter().filter(is_same).map(|(_, count)| count).sum();
+        writeln!(f, "errors whose message tells of the model's refusal: {same} of {all}")?;
+        for ((model, message), count) in self.messages.iter().filter(|pair| !is_same(pair)) {
+            let told = message.map_or("none".into(), |refusal| refusal.number().to_string());
+            writeln!(f, "  {count} where the model gives {} and the message tells of {told}", model.number())?;
         }
         Ok(())
     }
@@ -273,7 +280,7 @@ impl Tally {
     fn add(&mut self, judgement: &Judgement, ways: &[String]) {
         self.images += 1;
         match &judgement.original {
-            _ if !is_due(&judgement.pass) => self.added += 1,
+            _ if !is_due(&judgement.pass) => self.outside += 1,
             Some(Reply::Panic(_)) => self.panics += 1,
             Some(Reply::Abort) => self.aborts += 1,
             _ => self.compared += 1,
@@ -290,7 +297,7 @@ impl fmt::Display for Coverage {
         writeln!(
             f,
             "{:<62} {:>8} {:>8} {:>7} {:>7} {:>7} {:>5}",
-            "", "images", "compared", "panics", "aborts", "added", "ways"
+            "", "images", "compared", "panics", "aborts", "outside", "ways"
         )?;
         let all = std::iter::once(("all images".to_string(), &self.all));
         for (name, t) in all.chain(self.rows.iter().map(|(row, tally)| (row.to_string(), tally))) {
@@ -301,7 +308,7 @@ impl fmt::Display for Coverage {
                 t.compared,
                 t.panics,
                 t.aborts,
-                t.added,
+                t.outside,
                 t.ways.len()
             )?;
         }

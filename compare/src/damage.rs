@@ -90,7 +90,7 @@ impl<'a> Draft<'a> {
             6 => count.wrapping_add(self.rng.below(3)).wrapping_sub(1),
             7 => self.rng.pick(&self.survey.objects).blocks[0],
             8 => self.rng.below(count),
-            9 => self.rng.next(),
+            9 => self.rng.number(),
             10 => self.rng.below(64),
             11 => *self.rng.pick(&self.survey.ids),
             12 => size - self.rng.below(128),
@@ -135,7 +135,7 @@ impl<'a> Draft<'a> {
         let at = self.rng.below(reach as u64) as usize;
         let field =
             Field { name: "bytes", at, width: self.rng.between(1, 8).min((object.length - at) as u64) as usize };
-        let value = self.rng.next();
+        let value = self.rng.number();
         self.set(object, field, value);
         let sealed = object.role.sealed() && self.rng.chance(60);
         if sealed {

@@ -3,6 +3,8 @@
 use std::fmt;
 use std::mem::discriminant;
 
+use space_check::places::REFUSAL;
+
 /// Whose answer it is.
 #[derive(Clone, Copy, Debug, PartialEq, Eq)]
 pub enum Party {
@@ -20,7 +22,7 @@ pub enum Disagreement {
         who: [Party; 2],
         lengths: [usize; 2],
     },
-    /// A number of the answer; the one at place 0 is the refusal.
+    /// A number of the answer.
     Figure {
         who: [Party; 2],
         place: usize,
@@ -66,7 +68,7 @@ impl Disagreement {
         use Disagreement::*;
         match (self, other) {
             // The refusals belong to the fault, the values of other figures don't.
-            (Figure { place: 0, .. }, _) | (_, Figure { place: 0, .. }) => self == other,
+            (Figure { place: REFUSAL, .. }, _) | (_, Figure { place: REFUSAL, .. }) => self == other,
             (Figure { who: a, place: i, .. }, Figure { who: b, place: j, .. }) => (a, i) == (b, j),
             (MapLength { who: a, .. }, MapLength { who: b, .. }) => a == b,
             (MapByte { who: a, .. }, MapByte { who: b, .. }) => a == b,
@@ -94,7 +96,7 @@ impl fmt::Display for Disagreement {
         use Disagreement::*;
         match self {
             Numbers { who: [a, b], lengths: [x, y] } => write!(f, "{a} and {b} have {x} and {y} numbers"),
-            Figure { who: [a, b], place: 0, values: [x, y] } => {
+            Figure { who: [a, b], place: REFUSAL, values: [x, y] } => {
                 write!(f, "{a} and {b} part in the refusal: {x} and {y}")
             }
             Figure { who: [a, b], place, values: [x, y] } => {

@@ -61,6 +61,10 @@ pub mod object {
     pub const FREE_QUEUE: u64 = 9;
     pub const OBJECT_MAP: u64 = 11;
     pub const CHECKPOINT_MAP: u64 = 12;
+
+    /// Stored beside the kind in a type: an ephemeral and a physical object.
+    pub const EPHEMERAL: u64 = 0x8000_0000;
+    pub const PHYSICAL: u64 = 0x4000_0000;
 }
 
 /// The container superblock.
@@ -124,7 +128,10 @@ pub mod manager {
         POOL_BASE "pool base" 176 8;
         POOL_QUEUE "pool queue" 208 8;
         MAIN_QUEUE "main queue" 248 8;
+        FREE_HEAD "free head" 320 2;
+        FREE_TAIL "free tail" 322 2;
         INDEX_OFFSET "index offset" 328 4;
+        FREE_NEXT_OFFSET "free-next offset" 332 4;
     }
     /// The bytes that hold all its fields.
     pub const LENGTH: usize = 344;
@@ -132,8 +139,11 @@ pub mod manager {
     pub const ADDRESS_WIDTH: usize = 8;
     /// The second device's fields, which a pass doesn't read.
     pub const SPARE: std::ops::Range<usize> = 96..144;
+    /// Stands for no index: the head and the tail of an empty free list.
+    pub const NO_INDEX: u64 = 0xffff;
     /// What the members of its lists are called.
     pub const INDEX: &str = "bitmap index";
+    pub const FREE_NEXT: &str = "free-next index";
     pub const CHUNK_INFO_ADDRESS: &str = "chunk-info address";
 }
 

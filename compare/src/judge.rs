@@ -1,18 +1,20 @@
 //! Holds the answers on one image against each other.
 //!
-//! The original is the reference where it is one: on images that meet no added refusal and on which it neither
-//! panics nor aborts. There its report must be the model's, figure by figure and block by block, and its error must
-//! meet a refusal, of whichever number. The library, where linked, must give the model's answer and map everywhere
+//! The original is the reference where it is one: on images that no rule takes out (`Outside`) and on which it neither
+//! panics nor aborts. There its report must be the model's, in the numbers that it has and block by block, and its error
+//! must meet a refusal, of whichever number. The library, where linked, must give the model's answer and map everywhere
 //! and the original's where that is the reference. Model and library get the map in two fills.
 
 use std::io;
 
-use crate::answer::{Answer, MARKED, OWNER, POOL_USED};
+use space_check::{Cell, Refusal};
+
+use crate::answer::Answer;
 use crate::disagreement::{Disagreement, Party};
 use crate::fill::{Fill, FILLS};
 use crate::library;
 use crate::model::{self, Pass};
-use crate::refusal::{Refusal, LAST_UNTOUCHED};
+use crate::oracle;
 use crate::worker::{Reply, Who, Worker, LARGE};
 
 pub struct Judgement {
@@ -72,14 +74,17 @@ fn must_answer(pass: &Pass) -> bool {
     pass.reports() && pass.notes.repeated_chain == 0
 }
 
-/// No added refusal is met.
+/// The original is the reference, where it answers.
 pub fn is_due(pass: &Pass) -> bool {
-    !pass.refusal.is_some_and(|r| r.added())
+    pass.notes.outside.is_none()
 }
+
+/// The last refusal that leaves the map as it was handed in.
+pub const LAST_UNTOUCHED: Refusal = Refusal::CountDiffers;
 
 /// The bytes of the map that a pass with this answer writes: none after an early refusal, else one for each block.
 fn written(pass: &Pass) -> usize {
-    let untouched = pass.refusal.is_some_and(|r| r.number() <= LAST_UNTOUCHED);
+    let untouched = pass.refusal().is_some_and(|refusal| refusal <= LAST_UNTOUCHED);
     if untouched {
         0
     } else {
@@ -94,7 +99,7 @@ fn wrong_byte(pass: &Pass, fill: Fill, left: &[u8]) -> Option<usize> {
     left.iter().enumerate().position(|(i, &byte)| match (i < written, reports) {
         (false, _) => byte != fill.byte(i),
         (true, false) => byte != 0,
-        (true, true) => byte & !(OWNER | MARKED | POOL_USED) != 0,
+        (true, true) => byte & !(Cell::OWNER | Cell::MARKED | Cell::POOL_USED) != 0,
     })
 }
 
@@ -121,9 +126,11 @@ fn original_parts(pass: &Pass, left: &[u8], original: Option<&Reply>) -> Option<
         (Reply::Answer(numbers, map, _), Answer::Reported(_)) => answers_part(
             [Party::Original, Party::Model],
             (numbers, map),
-            (&pass.answer.numbers(), &left[..pass.notes.count as usize]),
+            (theirs(&pass.answer.numbers()), &left[..pass.notes.count as usize]),
         ),
-        (Reply::Answer(..), Answer::Refused(number)) => Some(Disagreement::OriginalReports { refusal: *number }),
+        (Reply::Answer(..), Answer::Refused(refusal)) => {
+            Some(Disagreement::OriginalReports { refusal: refusal.number() })
+        }
         (Reply::Error(message), Answer::Reported(_)) => Some(Disagreement::OriginalErrs(message.clone())),
         (Reply::Panic(message), _) if !pass.notes.chain_sum_overflowed && !may_panic(&pass.answer) => {
             Some(Disagreement::OriginalPanics(message.clone()))
@@ -135,8 +142,13 @@ fn original_parts(pass: &Pass, left: &[u8], original: Option<&Reply>) -> Option<
 
 /// The original indexes slices and adds without a test where these refusals are given.
 fn may_panic(answer: &Answer) -> bool {
-    let refusals = [Refusal::Absent, Refusal::Bitmap, Refusal::Sum].map(Refusal::number);
-    matches!(answer, Answer::Refused(number) if refusals.contains(number))
+    use Refusal::{BadBitmap, OutsideBytes, Overflow};
+    matches!(answer, Answer::Refused(OutsideBytes | BadBitmap | Overflow))
+}
+
+/// Of an answer's numbers those that the original has too.
+fn theirs(numbers: &[u64]) -> &[u64] {
+    &numbers[..oracle::NUMBERS.min(numbers.len())]
 }
 
 /// The library beside model and original, with both fills of the map.
@@ -157,9 +169,9 @@ fn library_parts(
         let beside_model =
             answers_part([Party::Library, Party::Model], (&numbers, &map), (&pass.answer.numbers(), &expected));
         let beside_original = || match original {
-            Some(Reply::Answer(theirs, their_map, _)) if is_due(pass) => {
+            Some(Reply::Answer(their_numbers, their_map, _)) if is_due(pass) => {
                 let ours = &map[..their_map.len().min(map.len())];
-                answers_part([Party::Library, Party::Original], (&numbers, ours), (theirs, their_map))
+                answers_part([Party::Library, Party::Original], (theirs(&numbers), ours), (their_numbers, their_map))
             }
             _ => None,
         };
@@ -201,12 +213,12 @@ mod tests {
 
     fn refused(refusal: Refusal) -> Pass {
         let notes = Notes { count: 2, ..Notes::default() };
-        Pass { answer: Answer::Refused(refusal.number()), refusal: Some(refusal), notes }
+        Pass { answer: Answer::Refused(refusal), notes }
     }
 
     #[test]
     fn a_map_is_kept_or_cleared_up_to_the_count() {
-        let (early, late) = (refused(Refusal::CountDiffers), refused(Refusal::Address));
+        let (early, late) = (refused(Refusal::CountDiffers), refused(Refusal::PastContainer));
         assert_eq!(wrong_byte(&early, Fill::Zeroless, &[255, 254, 253]), None);
         assert_eq!(wrong_byte(&early, Fill::Zeroless, &[0, 254, 253]), Some(0));
         assert_eq!(wrong_byte(&late, Fill::Zeroless, &[0, 0, 253]), None);

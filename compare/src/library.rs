@@ -1,7 +1,7 @@
 //! The seam to the proved library, linked with the feature `library`.
 //!
-//! `libinterface.a` has one C function, which takes the image, the block map and an array for the answer's numbers
-//! (interface/space_check.h). It is called in the worker process: a crash there is seen and counts as a disagreement.
+//! The crate `space_check` has its one function, which takes the image, the block map and an array for the answer's
+//! numbers. It is called in the worker process: a crash there is seen and counts as a disagreement.
 
 pub const LINKED: bool = cfg!(feature = "library");
 
@@ -11,25 +11,16 @@ pub use linked::{check, is_current};
 #[cfg(feature = "library")]
 mod linked {
     use std::hash::{DefaultHasher, Hasher};
+    use std::hint::black_box;
     use std::{fs, io};
 
-    use crate::answer::NUMBERS;
+    use space_check::{figures_into, FIGURES};
+
     use crate::fill::Fill;
 
     /// So many elements on each side of a buffer that nothing may write.
     const GUARD: usize = 64;
     const GUARD_BYTE: u8 = 0xa5;
-
-    extern "C" {
-        fn space_check(
-            image: *const u8,
-            image_length: usize,
-            map: *mut u8,
-            map_length: usize,
-            figures: *mut u64,
-            figures_length: usize,
-        );
-    }
 
     /// An error where the archive that was linked is no longer what stands there.
     pub fn is_current() -> io::Result<()> {
@@ -51,14 +42,12 @@ mod linked {
         let copy = image.to_vec();
         let mut map = guarded(GUARD_BYTE, &fill.map(map_length));
         // Not the zeros that a number left out would be taken for.
-        let mut figures = guarded(guard, &[u64::MAX; NUMBERS]);
-        // SAFETY: each buffer is lent whole for the call, and the three don't overlap.
-        unsafe {
-            let (cells, numbers) = (map.as_mut_ptr().add(GUARD), figures.as_mut_ptr().add(GUARD));
-            space_check(image.as_ptr(), image.len(), cells, map_length, numbers, NUMBERS);
-        }
-        // The compiler may take a lent slice for unchanged: it is compared as if anything could have happened to it.
-        if std::hint::black_box(image) != copy {
+        let mut figures = guarded(guard, &[u64::MAX; FIGURES]);
+        figures_into(image, &mut map[GUARD..][..map_length], &mut figures[GUARD..][..FIGURES]);
+        // The compiler may take what was not lent, or not to be written, for unchanged: all is looked at as if anything
+        // could have happened to it.
+        let (image, map, figures) = (black_box(image), black_box(map), black_box(figures));
+        if image != copy {
             return Err("the image is changed");
         }
         let map = unguarded(GUARD_BYTE, map).ok_or("bytes beside the map are written")?;
@@ -67,7 +56,8 @@ mod linked {
     }
 
     fn guarded<T: Copy>(guard: T, content: &[T]) -> Vec<T> {
-        [&vec![guard; GUARD], content, &vec![guard; GUARD]].concat()
+        let guards = [guard; GUARD];
+        [&guards[..], content, &guards].concat()
     }
 
     /// The content, where the guards are still there.

@@ -3,13 +3,15 @@
 //! A file is a row of items, an empty line between them. `define NAME` gives a base image; `image NAME` an image
 //! with its answer. Then follow, each on a line: `made` how it came about, `base NAME`, `length N` of the image,
 //! `at OFFSET HEX` the bytes there (all others are the base's, or 0), `map N` the length of the block map handed in,
-//! `rust` how the original ended, `answer` the 79 numbers, `left HEX` the map afterwards.
+//! `rust` how the original ended and whose the answer is, `answer` the numbers, `left HEX` the map afterwards.
 
 use std::collections::HashMap;
 use std::{fs, io};
 
-use crate::answer::{Answer, NUMBERS};
-use crate::judge::{is_due, Judgement};
+use space_check::FIGURES;
+
+use crate::answer::Answer;
+use crate::judge::Judgement;
 use crate::text::{from_hex, from_row, to_hex, to_row};
 use crate::worker::Reply;
 
@@ -27,7 +29,7 @@ pub struct Item {
     pub left: Vec<u8>,
 }
 
-/// How the original ended, and whose the number is.
+/// How the original ended, the rule by which it is no reference, and whose the answer is where it isn't the original's.
 pub fn ending(judgement: &Judgement) -> String {
     let word = match judgement.original {
         Some(Reply::Answer(..)) => "report",
@@ -36,13 +38,14 @@ pub fn ending(judgement: &Judgement) -> String {
         Some(Reply::Abort) => "abort",
         Some(Reply::Breach(_) | Reply::Unreadable(_)) | None => "nothing",
     };
-    if !is_due(&judgement.pass) {
-        return format!("{word}, no reference: the number is the model's and added");
-    }
-    match (&judgement.original, &judgement.pass.answer) {
-        (Some(Reply::Answer(..)), _) => word.into(),
-        (_, Answer::Refused(_)) => format!("{word}, the number is the model's"),
-        (_, Answer::Reported(_)) => format!("{word}, no reference: the report is the model's"),
+    let whose = match judgement.pass.answer {
+        Answer::Refused(_) => "the number is the model's",
+        Answer::Reported(_) => "the report is the model's",
+    };
+    match (judgement.pass.notes.outside, &judgement.original) {
+        (Some(rule), _) => format!("{word}, outside by {rule}: {whose}"),
+        (None, Some(Reply::Answer(..))) => word.into(),
+        (None, _) => format!("{word}, {whose}"),
     }
 }
 
@@ -170,7 +173,7 @@ fn item(name: &str, group: &[Line], bases: &Bases) -> Result<Item, String> {
     let map_length = one(group, "map")?.parse().map_err(|_| format!("{name}: the map's length is no number"))?;
     let answer = from_row(one(group, "answer")?).ok_or_else(|| format!("{name}: the answer isn't numbers"))?;
     let left = from_hex(one(group, "left")?).ok_or_else(|| format!("{name}: the map isn't hexadecimal"))?;
-    if answer.len() != NUMBERS || left.len() != map_length {
+    if answer.len() != FIGURES || left.len() != map_length {
         return Err(format!("{name}: {} numbers, {} bytes of a map of {map_length}", answer.len(), left.len()));
     }
     Ok(Item {
@@ -197,7 +200,7 @@ mod tests {
             image: vec![1, 2, 9, 4, 0, 0, 7],
             map_length: 3,
             original: "error".into(),
-            answer: vec![5; NUMBERS],
+            answer: vec![5; FIGURES],
             left: vec![0, 1, 2],
         }
     }

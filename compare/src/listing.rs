@@ -9,11 +9,12 @@ use std::path::Path;
 use std::process::{Command, ExitStatus, Output};
 use std::{env, fmt, fs, io, process};
 
-use crate::answer::{Answer, INCONSISTENT};
+use space_check::{places, Refusal, Verdict};
+
+use crate::answer::Answer;
 use crate::judge::{judge, Ask, Judgement};
 use crate::list::{read, Item};
 use crate::oracle::LOCATION;
-use crate::refusal::Refusal;
 use crate::worker::{Reply, Worker, SMALL};
 
 /// What the command has to print, and how it has to end.
@@ -112,10 +113,12 @@ fn compare(worker: &mut Worker, program: &str, item: &Item) -> io::Result<Outcom
 /// Nothing where no answer is known: the command has no short map, and what the model alone reports has no lines.
 fn expected(judgement: &Judgement, location: &str) -> Option<Expected> {
     match (&judgement.pass.answer, &judgement.original) {
-        _ if judgement.pass.refusal == Some(Refusal::MapBelowCount) => None,
-        (Answer::Refused(number), _) => Some(Expected { text: format!("refused {number}\n"), status: REFUSED_STATUS }),
+        _ if judgement.pass.refusal() == Some(Refusal::ShortMap) => None,
+        (Answer::Refused(refusal), _) => {
+            Some(Expected { text: format!("refused {}\n", refusal.number()), status: REFUSED_STATUS })
+        }
         (_, Some(Reply::Answer(numbers, _, lines))) => {
-            Some(changed(lines, numbers.last() == Some(&INCONSISTENT), location))
+            Some(changed(lines, numbers[places::VERDICT] == Verdict::Inconsistent.number(), location))
         }
         _ => None,
     }

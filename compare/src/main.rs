@@ -1,45 +1,11 @@
 //! Runs the original space check beside a model of its rules and, where linked, beside the proved library.
 
-mod answer;
-mod boundary;
-mod container;
-mod coverage;
-mod damage;
-mod disagreement;
-mod draft;
-mod fields;
-mod fill;
-mod fletcher;
-mod image;
-mod judge;
-mod library;
-mod list;
-mod listing;
-mod messages;
-mod model;
-mod nodes;
-mod oracle;
-mod places;
-mod real;
-mod recipes;
-mod refusal;
-mod rng;
-mod role;
-mod run;
-mod sample;
-mod seeds;
-mod shape;
-mod shrink;
-mod survey;
-mod text;
-mod verify;
-mod worker;
-
 use std::ops::Range;
 use std::process::ExitCode;
 use std::{env, fs, io};
 
-use worker::{Reply, Who, Worker, LARGE};
+use compare::worker::{self, Reply, Who, Worker, LARGE};
+use compare::{listing, real, run, sample, text, verify};
 
 const USAGE: &str = "\
 usage: compare run --seeds A..B      images of seeds A to B - 1, the table of coverage
@@ -73,7 +39,7 @@ fn main() -> ExitCode {
 /// Whether all agree.
 fn command(words: &[&str]) -> io::Result<bool> {
     #[cfg(feature = "library")]
-    library::is_current()?;
+    compare::library::is_current()?;
     match words {
         ["run", "--seeds", seeds] => run::run(range(seeds)?),
         ["real"] => Ok(real::real(DAMAGED)? == 0),

@@ -4,33 +4,35 @@
 //! same fault as the model's number, both met it first. They may part where the original tests nothing and goes on
 //! to a later fault, or collects what the model takes up at once.
 
-/// A part of a message, and the refusal's number.
-const MESSAGES: [(&str, u64); 22] = [
-    ("I/O error", 1),
-    ("NXSB", 2),
-    ("block size", 3),
-    ("stored as a B-tree", 7),
-    ("no intact checkpoint", 9),
-    ("pre-release", 10),
-    ("Fusion", 10),
-    ("outside the container", 12),
-    ("checksum mismatch", 13),
-    ("expected a B-tree node", 14),
-    ("expected an object map", 14),
-    ("storage type", 14),
-    ("hashed", 14),
-    ("impossible layout", 15),
-    ("non-root", 15),
-    ("key/value layout", 15),
-    ("not in the checkpoint map", 16),
-    ("not in checkpoint", 16),
-    ("past end of", 17),
-    ("outside node", 17),
-    ("has no child", 17),
-    ("child at level", 18),
+use space_check::Refusal;
+
+/// A part of a message, and the refusal.
+const MESSAGES: [(&str, Refusal); 22] = [
+    ("I/O error", Refusal::ShortImage),
+    ("NXSB", Refusal::NoMagic),
+    ("block size", Refusal::BlockSize),
+    ("stored as a B-tree", Refusal::DescriptorLength),
+    ("no intact checkpoint", Refusal::NoCheckpoint),
+    ("pre-release", Refusal::Incompatible),
+    ("Fusion", Refusal::Incompatible),
+    ("outside the container", Refusal::PastContainer),
+    ("checksum mismatch", Refusal::BadChecksum),
+    ("expected a B-tree node", Refusal::WrongKind),
+    ("expected an object map", Refusal::WrongKind),
+    ("storage type", Refusal::WrongKind),
+    ("hashed", Refusal::WrongKind),
+    ("impossible layout", Refusal::BadNode),
+    ("non-root", Refusal::BadNode),
+    ("key/value layout", Refusal::BadNode),
+    ("not in the checkpoint map", Refusal::Unmapped),
+    ("not in checkpoint", Refusal::Unmapped),
+    ("past end of", Refusal::OutsideBytes),
+    ("outside node", Refusal::OutsideBytes),
+    ("has no child", Refusal::OutsideBytes),
+    ("child at level", Refusal::WrongLevel),
 ];
 
-/// The number, or 0 for a message of another kind.
-pub fn number(message: &str) -> u64 {
-    MESSAGES.iter().find(|(part, _)| message.contains(part)).map_or(0, |(_, number)| *number)
+/// Nothing for a message of another kind.
+pub fn refusal(message: &str) -> Option<Refusal> {
+    MESSAGES.iter().find(|(part, _)| message.contains(part)).map(|(_, refusal)| *refusal)
 }

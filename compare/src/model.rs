@@ -11,9 +11,11 @@ mod claims;
 mod manager;
 mod tree;
 
-use crate::answer::{Answer, Report, CONSISTENT, INCONSISTENT, MARKED, OWNER, POOL_USED};
+use space_check::{Cell, Refusal, Verdict};
+
+use crate::answer::{Answer, Report};
 use crate::fields::{manager as m, object, superblock};
-use crate::refusal::Refusal;
+use crate::outside::Outside;
 use audit::{Audit, Pool};
 pub use blocks::Blocks;
 use blocks::{need, Step};
@@ -46,18 +48,26 @@ pub struct Notes {
     pub repeated_chain: u64,
     /// The manager is longer than its ring, so that its blocks repeat.
     pub repeated_manager: bool,
+    /// The rule by which the original is no reference, of several the first that was met.
+    pub outside: Option<Outside>,
 }
 
 /// One pass of the model.
 pub struct Pass {
     pub answer: Answer,
-    pub refusal: Option<Refusal>,
     pub notes: Notes,
 }
 
 impl Pass {
+    pub fn refusal(&self) -> Option<Refusal> {
+        match self.answer {
+            Answer::Refused(refusal) => Some(refusal),
+            Answer::Reported(_) => None,
+        }
+    }
+
     pub fn reports(&self) -> bool {
-        self.refusal.is_none()
+        self.refusal().is_none()
     }
 }
 
@@ -74,12 +84,14 @@ pub fn check(image: &[u8], map: &mut [u8]) -> Pass {
         }
         report
     });
-    let refusal = outcome.as_ref().err().copied();
     let answer = match outcome {
         Ok(report) => Answer::Reported(Box::new(report)),
-        Err(refusal) => Answer::Refused(refusal.number()),
+        Err(refusal) => {
+            notes.outside = notes.outside.or(Outside::by(refusal));
+            Answer::Refused(refusal)
+        }
     };
-    Pass { answer, refusal, notes }
+    Pass { answer, notes }
 }
 
 /// Refusals 1 to 11.
@@ -87,7 +99,7 @@ pub fn open<'a>(image: &'a [u8], room: usize, notes: &mut Notes) -> Step<(Blocks
     let (blocks, area) = geometry(image, room, notes)?;
     let taken = checkpoint::take(&blocks, &area, notes)?;
     let features = superblock::INCOMPATIBLE.of(taken.superblock);
-    need(features & superblock::REFUSED_FEATURES == 0, Refusal::Features)?;
+    need(features & superblock::REFUSED_FEATURES == 0, Refusal::Incompatible)?;
     need(superblock::BLOCK_COUNT.of(taken.superblock) == blocks.count, Refusal::CountDiffers)?;
     Ok((blocks, taken))
 }
@@ -101,8 +113,8 @@ fn geometry<'a>(image: &'a [u8], room: usize, notes: &mut Notes) -> Step<(Blocks
     let count = superblock::BLOCK_COUNT.of(image);
     need((1..=HIGHEST_COUNT).contains(&count), Refusal::BlockCount)?;
     notes.count = count;
-    need(count * size <= image.len() as u64, Refusal::ImageBelowCount)?;
-    need(count <= room as u64, Refusal::MapBelowCount)?;
+    need(count * size <= image.len() as u64, Refusal::MissingBlocks)?;
+    need(count <= room as u64, Refusal::ShortMap)?;
     let ring = superblock::DESCRIPTOR_BLOCKS.of(image);
     need(ring < 0x8000_0000, Refusal::DescriptorLength)?;
     let base = superblock::DESCRIPTOR_BASE.of(image);
@@ -118,10 +130,9 @@ fn pass(blocks: &Blocks, taken: &Taken, cells: &mut [u8], notes: &mut Notes) -> 
     let objects = ObjectMap::load(blocks, superblock::OBJECT_MAP.of(taken.superblock))?;
     let manager = Manager::load(blocks, taken, notes)?;
     let pool = Pool::load(blocks, &manager)?;
-    let mut audit = Audit { pool: &pool, cells, report: Report::default(), queued_to_count: false };
+    let mut audit = Audit { pool: &pool, cells, report: Report::default(), notes };
     audit.chunk_infos(blocks, &manager)?;
     audit.queue(blocks, taken, manager.field(m::POOL_QUEUE))?;
-    notes.queued_to_count = audit.queued_to_count;
     let mut report = audit.report;
     report.pool_unused = pool.unused(cells)?;
     let mut claims = Claims { cells, report: &mut report };
@@ -137,8 +148,8 @@ fn pass(blocks: &Blocks, taken: &Taken, cells: &mut [u8], notes: &mut Notes) -> 
 /// Owners against marks, and the verdict.
 fn compare(cells: &[u8], report: &mut Report) {
     for (block, cell) in (0..).zip(cells) {
-        let (owner, marked) = (usize::from(cell & OWNER), cell & MARKED != 0);
-        report.pool_used += u64::from(cell & POOL_USED != 0);
+        let (owner, marked) = (usize::from(cell & Cell::OWNER), cell & Cell::MARKED != 0);
+        report.pool_used += u64::from(cell & Cell::POOL_USED != 0);
         if owner == 0 {
             report.leaked += u64::from(marked);
         } else if !marked {
@@ -148,7 +159,7 @@ fn compare(cells: &[u8], report: &mut Report) {
         }
     }
     let sound = report.lost_blocks() == 0 && report.overlaps == 0 && report.problems == 0;
-    report.verdict = if sound { CONSISTENT } else { INCONSISTENT };
+    report.verdict = if sound { Verdict::Consistent } else { Verdict::Inconsistent }.number();
 }
 
 #[cfg(test)]
@@ -156,7 +167,7 @@ mod tests {
     use super::*;
 
     fn refusal(image: &[u8]) -> Option<Refusal> {
-        check(image, &mut [0; 4]).refusal
+        check(image, &mut [0; 4]).refusal()
     }
 
     #[test]
@@ -170,7 +181,7 @@ mod tests {
         superblock::BLOCK_SIZE.set(&mut image, 65536);
         assert_eq!(refusal(&image), Some(Refusal::BlockCount));
         superblock::BLOCK_COUNT.set(&mut image, 1);
-        assert_eq!(refusal(&image), Some(Refusal::ImageBelowCount));
+        assert_eq!(refusal(&image), Some(Refusal::MissingBlocks));
         superblock::BLOCK_SIZE.set(&mut image, 4096);
         assert_eq!(refusal(&image), Some(Refusal::NoCheckpoint));
         superblock::DESCRIPTOR_BASE.set(&mut image, 2);

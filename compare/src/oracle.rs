@@ -3,11 +3,13 @@
 use std::any::Any;
 use std::panic::{catch_unwind, AssertUnwindSafe};
 
+use apfs::dev::BlockDevice;
 use apfs::Container;
+use space_check::{places, Cell, Kind, ProblemKind, Verdict, LOGGED};
 use winapfs::dump::space_check_container;
 use winapfs::{take_caught, Caught, Cells};
 
-use crate::answer::{Lost, Overlap, Problem, Report, CONSISTENT, INCONSISTENT, KINDS, LISTED, MARKED, POOL_USED};
+use crate::answer::{Lost, Overlap, Problem, Report};
 
 /// How a run of the original ended.
 #[derive(Debug, PartialEq, Eq)]
@@ -21,6 +23,9 @@ pub enum Ended {
     Unreadable(String),
 }
 
+/// The original has the answer's numbers up to the verdict.
+pub const NUMBERS: usize = places::VERDICT + 1;
+
 /// Where the container is, as the original is told and prints it.
 pub const LOCATION: &str = "image";
 
@@ -32,16 +37,18 @@ pub fn silence_panics() {
     std::panic::set_hook(Box::new(|_| {}));
 }
 
+/// One pass of the original; its verdict "inconsistent" is an error too.
+pub fn pass(device: Box<dyn BlockDevice>) -> Result<(), String> {
+    let container = Container::open(device).map_err(|e| e.to_string())?;
+    space_check_container(&container, LOCATION).map_err(|e| e.msg)
+}
+
 /// The original's answer. It may allocate without bound or run for ever: call it in a limited process.
-pub fn run(image: Vec<u8>) -> Ended {
+pub fn run(device: Box<dyn BlockDevice>) -> Ended {
     take_caught();
-    let pass = || -> Result<(), String> {
-        let container = Container::open(Box::new(image)).map_err(|e| e.to_string())?;
-        space_check_container(&container, LOCATION).map_err(|e| e.msg)
-    };
-    let verdict = match catch_unwind(AssertUnwindSafe(pass)) {
-        Ok(Ok(())) => CONSISTENT,
-        Ok(Err(message)) if message == INCONSISTENT_ERROR => INCONSISTENT,
+    let verdict = match catch_unwind(AssertUnwindSafe(|| pass(device))) {
+        Ok(Ok(())) => Verdict::Consistent,
+        Ok(Err(message)) if message == INCONSISTENT_ERROR => Verdict::Inconsistent,
         Ok(Err(message)) => return Ended::Error(message),
         Err(cause) => return Ended::Panic(message_of(cause.as_ref())),
     };
@@ -64,11 +71,15 @@ fn block_map(cells: &Cells) -> Read<Vec<u8>> {
         return Err(format!("{} owners and {} marks", cells.owner.len(), cells.marked.len()));
     }
     let numbers = cells.kinds.iter().map(|name| owner_number(name)).collect::<Read<Vec<u8>>>()?;
-    let cell = |(block, (&owner, &marked)): (u64, (&u8, &bool))| {
-        let used = if cells.pool_used.contains(&block) { POOL_USED } else { 0 };
-        numbers[usize::from(owner)] | used | if marked { MARKED } else { 0 }
-    };
-    Ok((0u64..).zip(cells.owner.iter().zip(&cells.marked)).map(cell).collect())
+    let cell = |(&owner, &marked): (&u8, &bool)| numbers[usize::from(owner)] | if marked { Cell::MARKED } else { 0 };
+    let mut map: Vec<u8> = cells.owner.iter().zip(&cells.marked).map(cell).collect();
+    for &block in &cells.pool_used {
+        // The set may name blocks past the container.
+        if let Some(cell) = usize::try_from(block).ok().and_then(|block| map.get_mut(block)) {
+            *cell |= Cell::POOL_USED;
+        }
+    }
+    Ok(map)
 }
 
 /// The number of a kind as the map has it: the empty name, which the original keeps first, stands for no owner.
@@ -76,16 +87,16 @@ fn owner_number(name: &str) -> Read<u8> {
     if name.is_empty() {
         return Ok(0);
     }
-    kind(name).map(|number| number as u8)
+    kind(name).map(|kind| kind.number() as u8)
 }
 
-/// Problem lines, by the problem's kind from 1.
-const PROBLEM_LINES: [&str; 5] = [
-    "  chunk-info block {} is free in the internal-pool bitmap",
-    "  chunk bitmap {} is free in the internal-pool bitmap",
-    "  internal-pool block {} used twice",
-    "  queued internal-pool block {} is already free",
-    "  internal-pool block {} queued but still in use",
+/// The lines of the original, with a place for the block.
+const PROBLEM_LINES: [(ProblemKind, &str); 5] = [
+    (ProblemKind::InfoUnmarked, "  chunk-info block {} is free in the internal-pool bitmap"),
+    (ProblemKind::BitmapUnmarked, "  chunk bitmap {} is free in the internal-pool bitmap"),
+    (ProblemKind::BitmapUsed, "  internal-pool block {} used twice"),
+    (ProblemKind::QueuedUnmarked, "  queued internal-pool block {} is already free"),
+    (ProblemKind::QueuedUsed, "  internal-pool block {} queued but still in use"),
 ];
 
 /// Printed lines, read from the first to the last.
@@ -101,11 +112,12 @@ impl<'a> Lines<'a> {
         Self { lines, next: 0 }
     }
 
-    fn report(mut self, verdict: u64) -> Read<Report> {
+    fn report(mut self, verdict: Verdict) -> Read<Report> {
         let [xid] = self.numbers(&format!("space check  {LOCATION}  xid {{}}"))?;
         let [pool_used, pool_unused, problems] =
             self.numbers("internal pool  {} blocks in use, {} marked but unused, {} problems")?;
-        let mut report = Report { xid, pool_used, pool_unused, problems, verdict, ..Report::default() };
+        let mut report = Report { xid, pool_used, pool_unused, problems, ..Report::default() };
+        report.verdict = verdict.number();
         for place in listed(&mut report.first_problems, problems) {
             *place = self.problem()?;
         }
@@ -116,7 +128,7 @@ impl<'a> Lines<'a> {
         }
         self.lost(&mut report)?;
         [report.leaked] = self.numbers("allocated but unused (leaked): {} blocks ()")?;
-        if verdict == CONSISTENT {
+        if verdict == Verdict::Consistent {
             self.parts("result     consistent: nothing in use is marked free, nothing is claimed twice")?;
         }
         match self.lines.get(self.next) {
@@ -128,7 +140,7 @@ impl<'a> Lines<'a> {
     fn bitmaps(&mut self, report: &mut Report) -> Read<()> {
         let line = "bitmaps    {} blocks free; chunks with a wrong free count: {}; device free count {} ({})";
         let parts = self.parts(line)?;
-        [report.free, report.wrong_counts, report.device_free] = decimals(&parts[..3])?;
+        [report.free, report.wrong_chunks, report.device_free] = decimals(&parts[..3])?;
         let said = if report.free == report.device_free { "matches" } else { "DOES NOT MATCH" };
         if parts[3] == said {
             Ok(())
@@ -139,14 +151,14 @@ impl<'a> Lines<'a> {
 
     fn problem(&mut self) -> Read<Problem> {
         let line = self.line()?;
-        let found = (1..).zip(PROBLEM_LINES).find_map(|(kind, text)| Some((kind, matched(text, line)?)));
+        let found = PROBLEM_LINES.iter().find_map(|(kind, text)| Some((kind, matched(text, line)?)));
         let (kind, parts) = found.ok_or_else(|| format!("no problem line: {line}"))?;
-        Ok(Problem { kind, block: hex(parts[0])? })
+        Ok(Problem { kind: kind.number(), block: hex(parts[0])? })
     }
 
     fn overlap(&mut self) -> Read<Overlap> {
         let parts = self.parts("  block {}: {} and {}")?;
-        Ok(Overlap { block: hex(parts[0])?, owner: kind(parts[1])?, claimant: kind(parts[2])? })
+        Ok(Overlap { block: hex(parts[0])?, owner: kind(parts[1])?.number(), claimant: kind(parts[2])?.number() })
     }
 
     /// The lines of the kinds follow their sum and end where it is reached.
@@ -155,7 +167,7 @@ impl<'a> Lines<'a> {
         while report.lost_blocks() < total {
             let parts = self.parts("  {}: {} (first at {})")?;
             let [count] = decimals(&parts[1..2])?;
-            report.lost[kind(parts[0])? as usize - 1] = Lost { count, first: hex(parts[2])? };
+            report.lost[kind(parts[0])?.number() as usize - 1] = Lost { count, first: hex(parts[2])? };
         }
         if report.lost_blocks() == total {
             Ok(())
@@ -181,8 +193,8 @@ impl<'a> Lines<'a> {
 }
 
 /// The places of a list that `count` findings fill.
-fn listed<T>(places: &mut [T; LISTED], count: u64) -> &mut [T] {
-    &mut places[..LISTED.min(usize::try_from(count).unwrap_or(LISTED))]
+fn listed<T>(list: &mut [T; LOGGED], count: u64) -> &mut [T] {
+    &mut list[..LOGGED.min(usize::try_from(count).unwrap_or(LOGGED))]
 }
 
 /// What stands at each `{}` of the pattern, where the line has the pattern's form.
@@ -211,9 +223,8 @@ fn hex(part: &str) -> Read<u64> {
     u64::from_str_radix(digits, 16).map_err(|e| format!("{part}: {e}"))
 }
 
-fn kind(name: &str) -> Read<u64> {
-    let found = (1..).zip(KINDS).find(|(_, kind)| *kind == name).map(|(number, _)| number);
-    found.ok_or_else(|| format!("no kind: {name}"))
+fn kind(name: &str) -> Read<Kind> {
+    Kind::ALL.iter().copied().find(|kind| kind.name() == name).ok_or_else(|| format!("no kind: {name}"))
 }
 
 #[cfg(test)]
@@ -234,12 +245,12 @@ mod tests {
     #[test]
     fn an_unknown_kind_is_no_owner() {
         let cells = |kinds| Cells { marked: vec![true], owner: vec![1], kinds, pool_used: Default::default() };
-        assert_eq!(block_map(&cells(vec!["", KINDS[4]])), Ok(vec![5 | MARKED]));
+        assert_eq!(block_map(&cells(vec!["", "internal-pool bitmap ring"])), Ok(vec![5 | Cell::MARKED]));
         assert!(block_map(&cells(vec!["", "file data"])).is_err());
     }
 
     #[test]
     fn an_empty_image_errs() {
-        assert!(matches!(run(Vec::new()), Ended::Error(_)));
+        assert!(matches!(run(Box::new(Vec::new())), Ended::Error(_)));
     }
 }

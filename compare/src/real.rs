@@ -3,13 +3,13 @@
 
 use std::fs::{self, File};
 use std::io;
-use std::path::{Path, PathBuf};
-use std::process::{Command, Stdio};
+use std::path::Path;
 use std::time::Instant;
 
 use crate::coverage::Coverage;
 use crate::image::Image;
 use crate::judge::{judge, Ask};
+use crate::mkapfs;
 use crate::run::compared;
 use crate::seeds::Base;
 use crate::survey::Survey;
@@ -19,14 +19,12 @@ use crate::worker::{Worker, LARGE};
 const MEBIBYTE: u64 = 1 << 20;
 /// Sizes of the real containers.
 const MEBIBYTES: [u64; 3] = [200, 333, 520];
-/// mkapfs chooses others by chance.
-const UUID: &str = "6c7a1d0e-0000-4000-8000-000000000001";
 /// So many containers with a large pool.
 const LARGE_POOLS: u64 = 3;
 
 /// The number of disagreements over containers of mkapfs, each undamaged and `damaged` times damaged.
 pub fn real(damaged: u64) -> io::Result<u64> {
-    let Some(program) = mkapfs() else {
+    let Some(program) = mkapfs::program() else {
         println!("mkapfs is not installed (Debian: apt-get install apfsprogs): real containers are left out");
         return Ok(0);
     };
@@ -78,24 +76,12 @@ fn agrees(worker: &mut Worker, name: &str, image: &Image, coverage: &mut Coverag
     }
 }
 
-/// It usually stands where only root's path looks.
-fn mkapfs() -> Option<PathBuf> {
-    let starts = |program: &PathBuf| {
-        Command::new(program).arg("-v").stdout(Stdio::null()).stderr(Stdio::null()).status().is_ok()
-    };
-    ["mkapfs", "/usr/sbin/mkapfs", "/sbin/mkapfs"].into_iter().map(PathBuf::from).find(starts)
-}
-
 fn make(program: &Path, mebibytes: u64) -> io::Result<Vec<u8>> {
     let path = std::env::temp_dir().join(format!("compare-{}-{mebibytes}.apfs", std::process::id()));
-    let made = File::create(&path).and_then(|file| file.set_len(mebibytes * MEBIBYTE)).and_then(|()| {
-        let status = Command::new(program).args(["-U", UUID, "-u", UUID]).arg(&path).status()?;
-        if status.success() {
-            fs::read(&path)
-        } else {
-            Err(io::Error::other(format!("mkapfs ended with {status}")))
-        }
-    });
+    let made = File::create(&path)
+        .and_then(|file| file.set_len(mebibytes * MEBIBYTE))
+        .and_then(|()| mkapfs::make(program, &path))
+        .and_then(|()| fs::read(&path));
     fs::remove_file(&path)?;
     made
 }

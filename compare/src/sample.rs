@@ -3,6 +3,8 @@
 use std::collections::{BTreeMap, BTreeSet};
 use std::io;
 
+use space_check::Refusal;
+
 use crate::boundary::{Boundary, BOUNDARIES};
 use crate::coverage::{rows, wanted, Row};
 use crate::fill::Fill;
@@ -10,7 +12,6 @@ use crate::image::Image;
 use crate::judge::{is_due, judge, Ask, Judgement};
 use crate::list::{ending, write_base, write_item, Item};
 use crate::model;
-use crate::refusal::Refusal;
 use crate::seeds::{Base, Builder};
 use crate::worker::{Reply, Worker, SMALL};
 
@@ -30,9 +31,8 @@ const SHAPES: usize = 2;
 const HEADER: &str = "\
 # Images with the answers of the original, for replaying where its sources are not at hand (tools/replay).
 # Made by `compare answers`; the form is told in compare/README.md.
-# rust report: every figure and the map are the original's.
-# rust error, panic or abort: the number and the map are the model's.
-# A number marked `added` is a refusal that the original doesn't have: what it did there is no reference.
+# rust report, and nothing more: every figure and the map are the original's.
+# Otherwise the line says what is the model's, and with `outside` by which rule the original is no reference.
 ";
 
 /// Chooses by what an image shows that the ones before it don't show often enough.
@@ -59,10 +59,10 @@ impl Choice {
         let seen = self.seen.get(row).copied().unwrap_or(0);
         match (row, ways) {
             // One damage alone tells the way; a refusal with few ways gets several values of each.
-            (Row::Refusal(_), [way]) => {
+            (Row::Refusal(_) | Row::Outside(_), [way]) => {
                 seen < EXAMPLES || seen < WAYS && !self.ways.contains(&(row.clone(), way.clone()))
             }
-            (Row::Refusal(_), _) => false,
+            (Row::Refusal(_) | Row::Outside(_), [_, ..]) => false,
             (Row::Shape(_), _) => seen < SHAPES,
             (Row::Recipe(_), _) => seen < RECIPES,
             _ => seen < EXAMPLES,
@@ -147,17 +147,17 @@ impl List {
 }
 
 fn item_name(boundary: &Boundary) -> String {
-    format!("boundary-{}-{}", boundary.refusal.number(), boundary.name.replace(' ', "-"))
+    format!("boundary-{}-{}", boundary.rule.refusal().number(), boundary.name.replace(' ', "-"))
 }
 
 /// The near side has an answer of the original, a report where there can be one, and the far side the refusal.
 fn shows(boundary: &Boundary, [near, far]: &[Judgement; 2]) -> bool {
-    let answered = match boundary.refusal {
+    let answered = match boundary.rule.refusal() {
         // A container of one block has no room for an object map, and one of 2^32 - 1 needs 16 TiB.
-        Refusal::BlockCount => !matches!(near.pass.refusal, None | Some(Refusal::BlockCount)),
+        Refusal::BlockCount => !matches!(near.pass.refusal(), None | Some(Refusal::BlockCount)),
         _ => is_due(&near.pass) && matches!(near.original, Some(Reply::Answer(..))),
     };
-    answered && far.pass.refusal == Some(boundary.refusal)
+    answered && far.pass.notes.outside == Some(boundary.rule)
 }
 
 /// The fixed list as text; an error where the original and the model part on one of its images.
@@ -186,6 +186,7 @@ pub fn make() -> io::Result<Result<String, String>> {
 mod tests {
     use super::*;
     use crate::list::parse;
+    use space_check::places;
 
     fn kept() -> Vec<Item> {
         parse(include_str!("../answers/list.txt")).expect("the list can be read")
@@ -207,8 +208,8 @@ mod tests {
         for boundary in BOUNDARIES {
             let name = item_name(boundary);
             let (near, far) = (find(format!("{name}-near")), find(format!("{name}-far")));
-            assert_eq!(far.answer[0], boundary.refusal.number(), "{name}");
-            assert!(boundary.refusal == Refusal::BlockCount || near.original == "report", "{name}");
+            assert_eq!(far.answer[places::REFUSAL], boundary.rule.refusal().number(), "{name}");
+            assert!(boundary.rule.refusal() == Refusal::BlockCount || near.original == "report", "{name}");
         }
     }
 }

@@ -90,7 +90,10 @@ impl Builder {
 #[cfg(test)]
 mod tests {
     use super::*;
-    use crate::answer::{Answer, CONSISTENT};
+    use crate::answer::Answer;
+    use crate::fields::manager as m;
+    use crate::survey::Role;
+    use space_check::Verdict;
 
     #[test]
     fn undamaged_containers_are_consistent() {
@@ -98,11 +101,37 @@ mod tests {
             let base = Base::build(number);
             let pass = crate::model::check(&base.bytes, &mut vec![0; base.survey.count as usize]);
             assert!(
-                matches!(&pass.answer, Answer::Reported(r) if r.verdict == CONSISTENT),
+                matches!(&pass.answer, Answer::Reported(r) if r.verdict == Verdict::Consistent.number()),
                 "shape {number}: {:?}",
                 pass.answer
             );
         }
+    }
+
+    /// From the head to the tail all blocks of the ring that hold no bitmap, each once.
+    #[test]
+    fn free_lists_are_true() {
+        for number in 0..300 {
+            let base = Base::build(number);
+            let manager = base.survey.with_role(Role::Manager)[0];
+            let draft = Draft { image: base.image(), survey: &base.survey, rng: &mut Rng::new(0) };
+            let members = |name| manager.fields.iter().filter(move |f| f.name == name).map(|&f| draft.get(manager, f));
+            let (next, mut seen): (Vec<u64>, Vec<u64>) = (members(m::FREE_NEXT).collect(), members(m::INDEX).collect());
+            let (mut at, tail) = (draft.get(manager, m::FREE_HEAD), draft.get(manager, m::FREE_TAIL));
+            while at != m::NO_INDEX {
+                seen.push(at);
+                at = if at == tail { m::NO_INDEX } else { next[at as usize] };
+            }
+            seen.sort_unstable();
+            assert_eq!(seen, (0..next.len() as u64).collect::<Vec<_>>(), "shape {number}");
+        }
+    }
+
+    #[test]
+    fn deleted_mappings_are_seldom() {
+        let deletes = |base: &Base| base.survey.features.iter().any(|f| f == "object map with deleted mappings");
+        let found = (0..1000).map(Base::build).filter(deletes).count();
+        assert!((10..100).contains(&found), "{found} of 1000");
     }
 
     #[test]

@@ -35,6 +35,8 @@ pub struct Shape {
     pub object_map: TreeShape,
     /// Entries of each leaf of the object map's tree; every fourth is a ghost.
     pub mappings: u64,
+    /// Some of the mappings are deleted ones.
+    pub deletes: bool,
     pub pool_queue: Option<QueueShape>,
     pub main_queue: Option<QueueShape>,
     /// Blocks that nothing uses.
@@ -126,6 +128,7 @@ impl Shape {
             chunks: rng.between(chunk_infos, chunk_infos * most),
             object_map: tree(rng, map_most),
             mappings: rng.below(most + 2),
+            deletes: rng.chance(8),
             pool_queue: rng.chance(60).then(|| QueueShape::random(rng, queue_mosts[0])),
             main_queue: rng.chance(60).then(|| QueueShape::random(rng, queue_mosts[1])),
             free: if small { rng.below(4) } else { rng.below(12) + if rng.chance(10) { 40 } else { 0 } },

@@ -136,13 +136,18 @@ impl Surveyor<'_> {
         let bytes = blocks.iter().map(|&a| self.blocks.raw(a).ok()).collect::<Option<Vec<_>>>()?.concat();
         let indices =
             listed(&bytes, manager::INDEX, manager::INDEX_OFFSET, manager::BITMAP_SLOTS, manager::INDEX_WIDTH);
+        let free =
+            listed(&bytes, manager::FREE_NEXT, manager::FREE_NEXT_OFFSET, manager::BITMAP_RING, manager::INDEX_WIDTH);
         let (offset, count) = (manager::CHUNK_INFO_OFFSET, manager::CHUNK_INFO_COUNT);
         let infos = listed(&bytes, manager::CHUNK_INFO_ADDRESS, offset, count, manager::ADDRESS_WIDTH);
         self.feature(blocks.len() > 1, "manager over several blocks");
         self.feature(blocks.windows(2).any(|w| w[1] < w[0]), "manager wraps");
         self.feature(indices.len() > 1, "pool bitmap of several blocks");
         self.feature(infos.len() > 1, "several chunk-info blocks");
-        let fields = [manager::ALL, &indices, &infos].concat();
+        let (head, tail) = (manager::FREE_HEAD.of(&bytes), manager::FREE_TAIL.of(&bytes));
+        self.feature(head == manager::NO_INDEX, "empty free list");
+        self.feature(head != tail, "free list of several blocks");
+        let fields = [manager::ALL, &indices, &infos, &free].concat();
         self.survey.objects.push(Object { role: Role::Manager, blocks, length, fields, bits: 0 });
         let (base, pool) = (manager::BITMAP_BASE.of(&bytes), manager::POOL_COUNT.of(&bytes));
         for index in indices {

@@ -200,10 +200,11 @@ fn answer_to(word: &str, image: Vec<u8>, map_length: usize) -> String {
 }
 
 fn ask_original(image: Vec<u8>) -> String {
-    match oracle::run(image) {
+    match oracle::run(Box::new(image)) {
         Ended::Report(report, map, lines) => {
             let numbers = Answer::Reported(report).numbers();
-            format!("answer\t{}\t{}\t{}", to_row(&numbers), to_hex(&map), lines.join("\t"))
+            let row = to_row(&numbers[..oracle::NUMBERS]);
+            format!("answer\t{row}\t{}\t{}", to_hex(&map), lines.join("\t"))
         }
         Ended::Error(message) => format!("error\t{message}"),
         Ended::Panic(message) => format!("panic\t{message}"),
@@ -227,7 +228,7 @@ mod tests {
     #[test]
     fn the_lines_come_with_the_answer() {
         let image = Base::build(0).bytes;
-        let Ended::Report(_, _, printed) = oracle::run(image.clone()) else { panic!("no report") };
+        let Ended::Report(_, _, printed) = oracle::run(Box::new(image.clone())) else { panic!("no report") };
         assert!(matches!(parse(&ask_original(image)), Reply::Answer(_, _, lines) if lines == printed));
     }
 }

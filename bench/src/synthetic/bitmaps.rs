@@ -1,8 +1,9 @@
 //! Bitmaps, and the chunks that they describe.
 
-use super::{BLOCK, PHYSICAL, XID};
-use crate::fields::{chunk, chunk_info, object};
-use crate::rng::Rng;
+use compare::fields::{chunk, chunk_info, object};
+use compare::rng::Rng;
+
+use super::{BLOCK, XID};
 
 /// A chunk has as many blocks as its bitmap block has bits.
 const CHUNK: u64 = 8 * BLOCK as u64;
@@ -48,7 +49,7 @@ impl Chunks {
             match kind {
                 0 => {}
                 1 => bitmap.fill(0xff),
-                _ => bitmap.chunks_mut(8).for_each(|word| word.copy_from_slice(&rng.next().to_le_bytes())),
+                _ => bitmap.chunks_mut(8).for_each(|word| word.copy_from_slice(&rng.number().to_le_bytes())),
             }
             empty.push(kind == 0);
         }
@@ -94,7 +95,7 @@ impl Chunks {
 fn info_block(number: u64, first: u64, bitmaps: &[&[u8]]) -> Vec<u8> {
     let mut block = vec![0; BLOCK];
     object::XID.set(&mut block, XID);
-    object::TYPE.set(&mut block, object::CHUNK_INFO | PHYSICAL);
+    object::TYPE.set(&mut block, object::CHUNK_INFO | object::PHYSICAL);
     chunk_info::COUNT.set(&mut block, bitmaps.len() as u64);
     for (i, bitmap) in bitmaps.iter().enumerate() {
         let at = chunk_info::RECORDS + i * chunk_info::RECORD;

@@ -2,9 +2,10 @@
 
 use std::io;
 
-use super::{Build, Form, BLOCK, EPHEMERAL, MANAGER_ID, PHYSICAL, QUEUE_ID, XID};
-use crate::fields::{checkpoint_map, mapping, object, superblock as s};
-use crate::fletcher::seal;
+use compare::fields::{checkpoint_map, mapping, object, superblock as s};
+use compare::fletcher::seal;
+
+use super::{Build, Form, BLOCK, MANAGER_ID, QUEUE_ID, XID};
 
 /// So many mappings fit a block.
 const MAPPINGS: usize = (BLOCK - checkpoint_map::ENTRIES) / checkpoint_map::ENTRY;
@@ -35,7 +36,7 @@ impl Build<'_> {
         let fields = [
             (object::ID, 1),
             (object::XID, XID),
-            (object::TYPE, object::SUPERBLOCK | EPHEMERAL),
+            (object::TYPE, object::SUPERBLOCK | object::EPHEMERAL),
             (s::MAGIC, s::NXSB),
             (s::BLOCK_SIZE, BLOCK as u64),
             (s::BLOCK_COUNT, self.form.blocks),
@@ -61,13 +62,13 @@ fn map_block(at: u64, mappings: &[(u64, u64)], last: bool) -> Vec<u8> {
     let mut block = vec![0; BLOCK];
     object::ID.set(&mut block, at);
     object::XID.set(&mut block, XID);
-    object::TYPE.set(&mut block, object::CHECKPOINT_MAP | PHYSICAL);
+    object::TYPE.set(&mut block, object::CHECKPOINT_MAP | object::PHYSICAL);
     checkpoint_map::FLAGS.set(&mut block, if last { checkpoint_map::LAST } else { 0 });
     checkpoint_map::COUNT.set(&mut block, mappings.len() as u64);
     for (i, &(id, address)) in mappings.iter().enumerate() {
         let entry = checkpoint_map::ENTRIES + i * checkpoint_map::ENTRY;
         let kind = if id == MANAGER_ID { object::MANAGER } else { object::NODE };
-        mapping::TYPE.shifted(entry).set(&mut block, kind | EPHEMERAL);
+        mapping::TYPE.shifted(entry).set(&mut block, kind | object::EPHEMERAL);
         mapping::SIZE.shifted(entry).set(&mut block, BLOCK as u64);
         mapping::ID.shifted(entry).set(&mut block, id);
         mapping::ADDRESS.shifted(entry).set(&mut block, address);

@@ -2,13 +2,15 @@
 
 use std::io;
 
+use compare::fields::{manager as m, object, put};
+use compare::fletcher::seal;
+use compare::free_list::FreeList;
+
 use super::bitmaps::{Bits, Chunks};
 use super::queues::ring_index;
-use super::{Build, BLOCK, EPHEMERAL, MANAGER_ID, QUEUE_ID, XID};
-use crate::fields::{manager as m, object, put};
-use crate::fletcher::seal;
+use super::{Build, BLOCK, MANAGER_ID, QUEUE_ID, XID};
 
-/// Where its two lists stand: pool bitmap indices behind its fields, and chunk-info addresses.
+/// Where its lists stand: pool bitmap indices behind its fields, then the ring's unused blocks; and chunk-info addresses.
 const INDICES: usize = m::LENGTH;
 const ADDRESSES: usize = 2048;
 
@@ -22,7 +24,7 @@ impl Build<'_> {
         let fields = [
             (object::ID, MANAGER_ID),
             (object::XID, XID),
-            (object::TYPE, object::MANAGER | EPHEMERAL),
+            (object::TYPE, object::MANAGER | object::EPHEMERAL),
             (m::CHUNK_INFO_COUNT, infos),
             (m::FREE_COUNT, free),
             (m::CHUNK_INFO_OFFSET, ADDRESSES as u64),
@@ -37,7 +39,11 @@ impl Build<'_> {
             (m::INDEX_OFFSET, INDICES as u64),
         ];
         fields.into_iter().for_each(|(field, value)| field.set(&mut block, value));
-        list(&mut block, INDICES, m::INDEX_WIDTH, (0..slots).map(ring_index));
+        let indices: Vec<u64> = (0..slots).map(ring_index).collect();
+        list(&mut block, INDICES, m::INDEX_WIDTH, indices.iter().copied());
+        let ring = places.pool - places.bitmap_ring;
+        let unused: Vec<u64> = (0..ring).filter(|index| !indices.contains(index)).collect();
+        FreeList::through(&unused, ring).write(&mut block, INDICES + indices.len() * m::INDEX_WIDTH);
         list(&mut block, ADDRESSES, m::ADDRESS_WIDTH, first_info..first_info + infos);
         seal(&mut block);
         self.put(places.data, &block)

@@ -2,12 +2,13 @@
 
 use std::io;
 
+use compare::fields::{mapped, object, object_map};
+use compare::fletcher::seal;
+use compare::nodes::{bytes_of, Sizes};
+
 use super::bitmaps::Bits;
 use super::trees::Tree;
-use super::{Build, BLOCK, PHYSICAL, XID};
-use crate::fields::{mapped, object, object_map};
-use crate::fletcher::seal;
-use crate::nodes::{bytes_of, Sizes};
+use super::{Build, BLOCK, XID};
 
 const VOLUME_ID: u64 = 0x10_0000;
 
@@ -31,8 +32,8 @@ fn block(at: u64, root: u64) -> Vec<u8> {
     let mut block = vec![0; BLOCK];
     object::ID.set(&mut block, at);
     object::XID.set(&mut block, XID);
-    object::TYPE.set(&mut block, object::OBJECT_MAP | PHYSICAL);
-    object_map::TREE_TYPE.set(&mut block, object::ROOT_NODE | PHYSICAL);
+    object::TYPE.set(&mut block, object::OBJECT_MAP | object::PHYSICAL);
+    object_map::TREE_TYPE.set(&mut block, object::ROOT_NODE | object::PHYSICAL);
     object_map::ROOT.set(&mut block, root);
     seal(&mut block);
     block

@@ -2,12 +2,13 @@
 
 use std::io;
 
+use compare::fields::{object, queue};
+use compare::nodes::{bytes_of, Entry, Sizes};
+use compare::rng::Rng;
+
 use super::bitmaps::{Bits, Chunks};
 use super::trees::Tree;
 use super::{Build, BLOCK, QUEUE_ID, XID};
-use crate::fields::{object, queue};
-use crate::nodes::{bytes_of, Entry, Sizes};
-use crate::rng::Rng;
 
 /// A queued run has a slot of its own, so that no two overlap; in the main queue it begins anywhere in the first half.
 pub const POOL_SLOT: u64 = 8;

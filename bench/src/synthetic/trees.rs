@@ -2,8 +2,9 @@
 
 use std::io;
 
+use compare::nodes::{bytes_of, Entry, Node, Sizes};
+
 use super::{Build, BLOCK, XID};
-use crate::nodes::{bytes_of, Entry, Node, Sizes};
 
 /// So many entries of the longest kind fit a node.
 const FAN: usize = 100;

@@ -1,19 +1,15 @@
 //! The pool's bitmap, the chunks' bitmaps and the pool queue: what is marked, what is used, the problems met.
 
+use space_check::{Cell, ProblemKind, Refusal, LOGGED};
+
 use super::blocks::{bit, cut, field, need, sum, Blocks, Step};
 use super::checkpoint::Taken;
 use super::manager::Manager;
 use super::tree::{scan_queue, Entry};
-use crate::answer::{Problem, Report, LISTED, MARKED, POOL_USED};
+use super::Notes;
+use crate::answer::{Problem, Report};
 use crate::fields::{chunk, chunk_info, manager as m, queue};
-use crate::refusal::Refusal;
-
-// Problem kinds.
-const INFO_UNMARKED: u64 = 1;
-const BITMAP_UNMARKED: u64 = 2;
-const BITMAP_USED: u64 = 3;
-const QUEUED_UNMARKED: u64 = 4;
-const QUEUED_USED: u64 = 5;
+use crate::outside::Outside;
 
 /// The internal pool and its bitmap, block after block.
 pub struct Pool<'a> {
@@ -30,7 +26,7 @@ impl<'a> Pool<'a> {
         let ring = manager.field(m::BITMAP_BASE);
         let bitmaps = indices.iter().map(|&i| blocks.raw(sum(ring, i)?)).collect::<Step<Vec<_>>>()?;
         let count = manager.field(m::POOL_COUNT);
-        need(count <= slots * blocks.size as u64 * 8, Refusal::Bitmap)?;
+        need(count <= slots * blocks.size as u64 * 8, Refusal::BadBitmap)?;
         Ok(Pool { base: manager.field(m::POOL_BASE), count, bitmaps })
     }
 
@@ -55,7 +51,7 @@ impl<'a> Pool<'a> {
 }
 
 fn is_used(cells: &[u8], address: u64) -> bool {
-    usize::try_from(address).ok().and_then(|a| cells.get(a)).is_some_and(|cell| cell & POOL_USED != 0)
+    usize::try_from(address).ok().and_then(|a| cells.get(a)).is_some_and(|cell| cell & Cell::POOL_USED != 0)
 }
 
 struct Chunk {
@@ -90,18 +86,17 @@ pub struct Audit<'p, 'c> {
     pub pool: &'p Pool<'p>,
     pub cells: &'c mut [u8],
     pub report: Report,
-    /// An entry of the pool queue ended at the count.
-    pub queued_to_count: bool,
+    pub notes: &'c mut Notes,
 }
 
 impl Audit<'_, '_> {
     /// Notes a problem where the test holds.
-    fn problem_if(&mut self, test: bool, kind: u64, block: u64) {
+    fn problem_if(&mut self, test: bool, kind: ProblemKind, block: u64) {
         if !test {
             return;
         }
-        if self.report.problems < LISTED as u64 {
-            self.report.first_problems[self.report.problems as usize] = Problem { kind, block };
+        if self.report.problems < LOGGED as u64 {
+            self.report.first_problems[self.report.problems as usize] = Problem { kind: kind.number(), block };
         }
         self.report.problems += 1;
     }
@@ -110,9 +105,9 @@ impl Audit<'_, '_> {
     pub fn chunk_infos(&mut self, blocks: &Blocks, manager: &Manager) -> Step<()> {
         let (offset, count) = (manager.field(m::CHUNK_INFO_OFFSET), manager.field(m::CHUNK_INFO_COUNT));
         for address in manager.list(offset, count, m::ADDRESS_WIDTH)? {
-            self.problem_if(!self.pool.marks(address), INFO_UNMARKED, address);
+            self.problem_if(!self.pool.marks(address), ProblemKind::InfoUnmarked, address);
             let records = chunks(blocks.raw(address)?)?;
-            self.cells[address as usize] |= POOL_USED;
+            self.cells[address as usize] |= Cell::POOL_USED;
             records.iter().try_for_each(|chunk| self.chunk(blocks, chunk))?;
         }
         Ok(())
@@ -121,20 +116,20 @@ impl Audit<'_, '_> {
     fn chunk(&mut self, blocks: &Blocks, chunk: &Chunk) -> Step<()> {
         let mut free = chunk.blocks;
         if chunk.bitmap != 0 {
-            self.problem_if(!self.pool.marks(chunk.bitmap), BITMAP_UNMARKED, chunk.bitmap);
-            self.problem_if(is_used(self.cells, chunk.bitmap), BITMAP_USED, chunk.bitmap);
+            self.problem_if(!self.pool.marks(chunk.bitmap), ProblemKind::BitmapUnmarked, chunk.bitmap);
+            self.problem_if(is_used(self.cells, chunk.bitmap), ProblemKind::BitmapUsed, chunk.bitmap);
             let bitmap = blocks.raw(chunk.bitmap)?;
-            self.cells[chunk.bitmap as usize] |= POOL_USED;
-            need(chunk.blocks <= bitmap.len() as u64 * 8, Refusal::Bitmap)?;
+            self.cells[chunk.bitmap as usize] |= Cell::POOL_USED;
+            need(chunk.blocks <= bitmap.len() as u64 * 8, Refusal::BadBitmap)?;
             for i in (0..chunk.blocks).filter(|&i| bit(bitmap, i)) {
                 let block = sum(chunk.address, i)?;
-                need(block < blocks.count, Refusal::Bitmap)?;
-                self.cells[block as usize] |= MARKED;
+                need(block < blocks.count, Refusal::BadBitmap)?;
+                self.cells[block as usize] |= Cell::MARKED;
                 free -= 1;
             }
         }
         self.report.free = sum(self.report.free, free)?;
-        self.report.wrong_counts += u64::from(free != chunk.free);
+        self.report.wrong_chunks += u64::from(free != chunk.free);
         Ok(())
     }
 
@@ -143,12 +138,15 @@ impl Audit<'_, '_> {
         scan_queue(blocks, taken, root, &mut |entry| {
             let (address, count) = queued(&entry)?;
             let end = address.checked_add(count).filter(|&end| end <= blocks.count);
-            let end = end.ok_or(Refusal::QueuedPastCount)?;
-            self.queued_to_count |= end == blocks.count;
+            let Some(end) = end else {
+                self.notes.outside.get_or_insert(Outside::QueuedPastCount);
+                return Err(Refusal::Overflow);
+            };
+            self.notes.queued_to_count |= end == blocks.count;
             for block in address..end {
-                self.problem_if(!self.pool.marks(block), QUEUED_UNMARKED, block);
-                self.problem_if(is_used(self.cells, block), QUEUED_USED, block);
-                self.cells[block as usize] |= POOL_USED;
+                self.problem_if(!self.pool.marks(block), ProblemKind::QueuedUnmarked, block);
+                self.problem_if(is_used(self.cells, block), ProblemKind::QueuedUsed, block);
+                self.cells[block as usize] |= Cell::POOL_USED;
             }
             Ok(())
         })
@@ -172,7 +170,7 @@ mod tests {
         chunk_info::COUNT.set(&mut block, 126);
         assert_eq!(chunks(&block).map(|c| c.len()), Ok(126));
         chunk_info::COUNT.set(&mut block, 127);
-        assert_eq!(chunks(&block).map(|c| c.len()), Err(Refusal::Absent));
+        assert_eq!(chunks(&block).map(|c| c.len()), Err(Refusal::OutsideBytes));
     }
 
     #[test]
@@ -183,9 +181,9 @@ mod tests {
         let pool = Pool { base: 0, count: 0, bitmaps: Vec::new() };
         for (bitmap, free) in [(0, 16), (1, 6)] {
             let report = Report::default();
-            let mut audit = Audit { pool: &pool, cells: &mut [0; 16], report, queued_to_count: false };
+            let mut audit = Audit { pool: &pool, cells: &mut [0; 16], report, notes: &mut Notes::default() };
             assert_eq!(audit.chunk(&blocks, &Chunk { address: 0, blocks: 16, free, bitmap }), Ok(()));
-            assert_eq!((audit.report.free, audit.report.wrong_counts), (free, 0));
+            assert_eq!((audit.report.free, audit.report.wrong_chunks), (free, 0));
         }
     }
 }

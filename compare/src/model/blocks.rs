@@ -1,8 +1,9 @@
 //! Blocks of an image, and the tests that reading one makes.
 
+use space_check::Refusal;
+
 use crate::fields::number;
 use crate::fletcher::verifies;
-use crate::refusal::Refusal;
 
 /// A step of the pass: what it gives, or the refusal it meets.
 pub type Step<T> = Result<T, Refusal>;
@@ -17,17 +18,17 @@ pub fn need(test: bool, refusal: Refusal) -> Step<()> {
 
 /// A sum that must stay below 2^64.
 pub fn sum(a: u64, b: u64) -> Step<u64> {
-    a.checked_add(b).ok_or(Refusal::Sum)
+    a.checked_add(b).ok_or(Refusal::Overflow)
 }
 
 /// A number that must lie wholly inside its bytes.
 pub fn field(bytes: &[u8], at: usize, width: usize) -> Step<u64> {
-    number(bytes, at, width).ok_or(Refusal::Absent)
+    number(bytes, at, width).ok_or(Refusal::OutsideBytes)
 }
 
 /// A part that must lie wholly inside its bytes.
 pub fn cut(bytes: &[u8], at: usize, length: usize) -> Step<&[u8]> {
-    bytes.get(at..at + length).ok_or(Refusal::Absent)
+    bytes.get(at..at + length).ok_or(Refusal::OutsideBytes)
 }
 
 /// The container's blocks; the image holds all of them.
@@ -41,16 +42,16 @@ pub struct Blocks<'a> {
 impl<'a> Blocks<'a> {
     /// A block as it is.
     pub fn raw(&self, address: u64) -> Step<&'a [u8]> {
-        need(address < self.count, Refusal::Address)?;
+        need(address < self.count, Refusal::PastContainer)?;
         let at = address as usize * self.size;
         Ok(&self.image[at..at + self.size])
     }
 
     /// A block that must verify, and that can't be block 0.
     pub fn object(&self, address: u64) -> Step<&'a [u8]> {
-        need(address != 0, Refusal::Address)?;
+        need(address != 0, Refusal::PastContainer)?;
         let bytes = self.raw(address)?;
-        need(verifies(bytes), Refusal::Checksum)?;
+        need(verifies(bytes), Refusal::BadChecksum)?;
         Ok(bytes)
     }
 }

@@ -1,10 +1,11 @@
 //! Which superblock a pass takes, and the checkpoint map that goes with it.
 
+use space_check::Refusal;
+
 use super::blocks::{Blocks, Step};
 use super::Notes;
 use crate::fields::{checkpoint_map, mapping, object, superblock};
 use crate::fletcher::verifies;
-use crate::refusal::Refusal;
 
 /// The descriptor area that block 0 names.
 pub struct Area {

@@ -1,23 +1,14 @@
 //! Claims: who owns each block. The first owner keeps it.
 
+use space_check::{Cell, Kind, LOGGED};
+
 use super::audit::queued;
 use super::blocks::{field, sum, Blocks, Step};
 use super::checkpoint::Taken;
 use super::manager::{Manager, LENGTH_MASK};
 use super::tree::{scan_queue, ObjectMap, Walked};
-use crate::answer::{Overlap, Report, LISTED, OWNER};
+use crate::answer::{Overlap, Report};
 use crate::fields::{manager as m, mapped, superblock as s};
-
-// Claiming kinds.
-const SUPERBLOCK: u8 = 1;
-const DESCRIPTOR_AREA: u8 = 2;
-const DATA_AREA: u8 = 3;
-const POOL: u8 = 4;
-const BITMAP_RING: u8 = 5;
-const OBJECT_MAP: u8 = 6;
-const OBJECT_MAP_NODE: u8 = 7;
-const VOLUME: u8 = 8;
-const QUEUED: u8 = 9;
 
 pub struct Claims<'c> {
     pub cells: &'c mut [u8],
@@ -26,19 +17,19 @@ pub struct Claims<'c> {
 
 impl Claims<'_> {
     /// `length` blocks from `start`, clipped at the count.
-    fn claim(&mut self, start: u64, length: u64, kind: u8) -> Step<()> {
+    fn claim(&mut self, start: u64, length: u64, kind: Kind) -> Step<()> {
         let end = sum(start, length)?.min(self.cells.len() as u64);
         (start..end).for_each(|block| self.claim_one(block, kind));
         Ok(())
     }
 
-    fn claim_one(&mut self, block: u64, kind: u8) {
-        let owner = self.cells[block as usize] & OWNER;
+    fn claim_one(&mut self, block: u64, kind: Kind) {
+        let (owner, claimant) = (self.cells[block as usize] & Cell::OWNER, kind.number() as u8);
         if owner == 0 {
-            self.cells[block as usize] |= kind;
-        } else if owner != kind {
-            let overlap = Overlap { block, owner: owner.into(), claimant: kind.into() };
-            if self.report.overlaps < LISTED as u64 {
+            self.cells[block as usize] |= claimant;
+        } else if owner != claimant {
+            let overlap = Overlap { block, owner: owner.into(), claimant: claimant.into() };
+            if self.report.overlaps < LOGGED as u64 {
                 self.report.first_overlaps[self.report.overlaps as usize] = overlap;
             }
             self.report.overlaps += 1;
@@ -47,22 +38,22 @@ impl Claims<'_> {
 
     /// Claims 1 to 5; the areas are the taken superblock's.
     pub fn areas(&mut self, sb: &[u8], manager: &Manager) -> Step<()> {
-        self.claim(0, 1, SUPERBLOCK)?;
-        self.claim(s::DESCRIPTOR_BASE.of(sb), s::DESCRIPTOR_BLOCKS.of(sb) & LENGTH_MASK, DESCRIPTOR_AREA)?;
-        self.claim(s::DATA_BASE.of(sb), s::DATA_BLOCKS.of(sb) & LENGTH_MASK, DATA_AREA)?;
-        self.claim(manager.field(m::POOL_BASE), manager.field(m::POOL_COUNT), POOL)?;
-        self.claim(manager.field(m::BITMAP_BASE), manager.field(m::BITMAP_RING), BITMAP_RING)
+        self.claim(0, 1, Kind::ContainerSuperblock)?;
+        self.claim(s::DESCRIPTOR_BASE.of(sb), s::DESCRIPTOR_BLOCKS.of(sb) & LENGTH_MASK, Kind::DescriptorArea)?;
+        self.claim(s::DATA_BASE.of(sb), s::DATA_BLOCKS.of(sb) & LENGTH_MASK, Kind::DataArea)?;
+        self.claim(manager.field(m::POOL_BASE), manager.field(m::POOL_COUNT), Kind::InternalPool)?;
+        self.claim(manager.field(m::BITMAP_BASE), manager.field(m::BITMAP_RING), Kind::PoolBitmapRing)
     }
 
     /// Claims 6 to 8: the object map, its nodes, and every mapping that is no ghost.
     pub fn object_map(&mut self, blocks: &Blocks, objects: &ObjectMap) -> Step<Walked> {
-        self.claim(objects.address, 1, OBJECT_MAP)?;
-        let walked = objects.walk(blocks, &mut |address| self.claim(address, 1, OBJECT_MAP_NODE))?;
+        self.claim(objects.address, 1, Kind::ObjectMap)?;
+        let walked = objects.walk(blocks, &mut |address| self.claim(address, 1, Kind::ObjectMapNode))?;
         objects.scan(blocks, &mut |entry| {
             let Some(value) = entry.value else { return Ok(()) };
             field(entry.key, mapped::ID.at, mapped::ID.width)?;
             field(entry.key, mapped::XID.at, mapped::XID.width)?;
-            self.claim(field(value, mapped::ADDRESS.at, mapped::ADDRESS.width)?, 1, VOLUME)
+            self.claim(field(value, mapped::ADDRESS.at, mapped::ADDRESS.width)?, 1, Kind::VolumeSuperblock)
         })?;
         Ok(walked)
     }
@@ -71,7 +62,7 @@ impl Claims<'_> {
     pub fn queue(&mut self, blocks: &Blocks, taken: &Taken, root: u64) -> Step<()> {
         scan_queue(blocks, taken, root, &mut |entry| {
             let (address, count) = queued(&entry)?;
-            self.claim(address, count, QUEUED)
+            self.claim(address, count, Kind::FreeQueue)
         })
     }
 }
@@ -84,18 +75,18 @@ mod tests {
     fn the_first_owner_keeps_a_block() {
         let (mut cells, mut report) = ([0; 1], Report::default());
         let mut claims = Claims { cells: &mut cells, report: &mut report };
-        for kind in [DATA_AREA, DATA_AREA, POOL, BITMAP_RING] {
+        for kind in [Kind::DataArea, Kind::DataArea, Kind::InternalPool, Kind::PoolBitmapRing] {
             claims.claim(0, 1, kind).unwrap();
         }
-        assert_eq!((report.overlaps, cells[0]), (2, DATA_AREA));
+        assert_eq!((report.overlaps, cells[0]), (2, Kind::DataArea.number() as u8));
     }
 
     #[test]
     fn a_claim_is_clipped_and_its_end_must_be_a_number() {
         let (mut cells, mut report) = ([0; 2], Report::default());
         let mut claims = Claims { cells: &mut cells, report: &mut report };
-        assert!(claims.claim(1, u64::MAX - 1, POOL).is_ok());
-        assert!(claims.claim(2, u64::MAX - 1, POOL).is_err());
-        assert_eq!(cells, [0, POOL]);
+        assert!(claims.claim(1, u64::MAX - 1, Kind::InternalPool).is_ok());
+        assert!(claims.claim(2, u64::MAX - 1, Kind::InternalPool).is_err());
+        assert_eq!(cells, [0, Kind::InternalPool.number() as u8]);
     }
 }

@@ -1,11 +1,12 @@
 //! The space manager: an object over one or more blocks of the data ring.
 
+use space_check::Refusal;
+
 use super::blocks::{need, sum, Blocks, Step};
 use super::checkpoint::Taken;
 use super::Notes;
 use crate::fields::{manager, superblock, Field};
 use crate::fletcher::verifies_in_parts;
-use crate::refusal::Refusal;
 
 /// Area lengths drop their top bit.
 pub const LENGTH_MASK: u64 = 0x7fff_ffff;
@@ -24,7 +25,7 @@ impl Ring {
 
     /// The address of block `i` of an object that is mapped at `address`.
     pub fn block(&self, address: u64, i: u64) -> Step<u64> {
-        let offset = address.checked_sub(self.base).ok_or(Refusal::Sum)?;
+        let offset = address.checked_sub(self.base).ok_or(Refusal::Overflow)?;
         sum(self.base, sum(offset, i)? % self.blocks)
     }
 }
@@ -37,14 +38,14 @@ pub struct Manager<'a> {
 
 impl<'a> Manager<'a> {
     pub fn load(blocks: &Blocks<'a>, taken: &Taken, notes: &mut Notes) -> Step<Self> {
-        let mapping = taken.lookup(superblock::MANAGER_ID.of(taken.superblock)).ok_or(Refusal::NotMapped)?;
+        let mapping = taken.lookup(superblock::MANAGER_ID.of(taken.superblock)).ok_or(Refusal::Unmapped)?;
         let ring = Ring::of(taken.superblock);
         let block_of = |i: u64| blocks.raw(ring.block(mapping.address, i)?);
         let parts = (0..mapping.size.div_ceil(blocks.size as u64)).map(block_of).collect::<Step<Vec<_>>>()?;
         notes.repeated_manager = parts.len() as u64 > ring.blocks;
         let length = mapping.size as usize;
-        need(verifies_in_parts(&parts, length), Refusal::Checksum)?;
-        need(length >= manager::LENGTH, Refusal::Absent)?;
+        need(verifies_in_parts(&parts, length), Refusal::BadChecksum)?;
+        need(length >= manager::LENGTH, Refusal::OutsideBytes)?;
         let manager = Manager { parts, length };
         need(manager.field(manager::ADDRESS_BLOCKS) == 0, Refusal::AddressBlocks)?;
         Ok(manager)
@@ -60,7 +61,7 @@ impl<'a> Manager<'a> {
     }
 
     fn number(&self, at: usize, width: usize) -> Step<u64> {
-        need(at + width <= self.length, Refusal::Absent)?;
+        need(at + width <= self.length, Refusal::OutsideBytes)?;
         Ok((at..at + width).rev().fold(0, |n, i| n << 8 | u64::from(self.byte(i))))
     }
 

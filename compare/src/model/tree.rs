@@ -1,9 +1,10 @@
 //! Tree nodes, the scan of a tree, the walk of a physical tree, and the object map's own tree.
 
+use space_check::Refusal;
+
 use super::blocks::{cut, field, need, Blocks, Step};
 use super::checkpoint::Taken;
 use crate::fields::{description, fixed_slot, node, object, object_map, variable_slot, Field};
-use crate::refusal::Refusal;
 
 /// A walk may need so many levels.
 pub const WALK_LEVELS: u64 = 33;
@@ -71,10 +72,10 @@ impl<'a> Node<'a> {
     /// Reads a node: 12, 13, 14 and 15.
     pub fn read(blocks: &Blocks<'a>, address: u64) -> Step<Self> {
         let bytes = blocks.object(address)?;
-        need([object::ROOT_NODE, object::NODE].contains(&object::KIND.of(bytes)), Refusal::Kind)?;
+        need([object::ROOT_NODE, object::NODE].contains(&object::KIND.of(bytes)), Refusal::WrongKind)?;
         let layout = Layout::of(bytes);
-        need(!layout.is(node::HASHED), Refusal::Kind)?;
-        need(layout.key_area <= layout.value_end && layout.level <= node::HIGHEST_LEVEL, Refusal::Layout)?;
+        need(!layout.is(node::HASHED), Refusal::WrongKind)?;
+        need(layout.key_area <= layout.value_end && layout.level <= node::HIGHEST_LEVEL, Refusal::BadNode)?;
         Ok(Node { bytes, layout })
     }
 
@@ -83,7 +84,7 @@ impl<'a> Node<'a> {
     }
 
     pub fn describe(&self) -> Step<Description> {
-        need(self.is(node::ROOT), Refusal::Layout)?;
+        need(self.is(node::ROOT), Refusal::BadNode)?;
         let last = &self.bytes[self.bytes.len() - description::LENGTH..];
         Ok(Description {
             flags: description::FLAGS.of(last),
@@ -108,13 +109,13 @@ impl<'a> Node<'a> {
         if value_at as u64 == node::GHOST {
             return Ok(Entry { key, value: None });
         }
-        let value_start = self.layout.value_end.checked_sub(value_at).ok_or(Refusal::Absent)?;
+        let value_start = self.layout.value_end.checked_sub(value_at).ok_or(Refusal::OutsideBytes)?;
         Ok(Entry { key, value: Some(cut(self.bytes, value_start, value_length)?) })
     }
 }
 
 fn pointer(entry: &Entry) -> Step<u64> {
-    field(entry.value.ok_or(Refusal::Absent)?, 0, node::POINTER)
+    field(entry.value.ok_or(Refusal::OutsideBytes)?, 0, node::POINTER)
 }
 
 /// Reads the node that a child pointer names.
@@ -138,7 +139,7 @@ pub fn scan<'a>(
             node.entry(i + 1, tree)?;
         }
         let below = child(pointer(&entry)?)?;
-        need(below.layout.level + 1 == node.layout.level, Refusal::Level)?;
+        need(below.layout.level + 1 == node.layout.level, Refusal::WrongLevel)?;
         scan(&below, tree, child, visit)?;
     }
     Ok(())
@@ -154,7 +155,7 @@ pub fn scan_queue<'a>(
     let Some(mapping) = taken.lookup(root) else { return Ok(()) };
     let root = Node::read(blocks, mapping.address)?;
     let tree = root.describe()?;
-    let child = |id| Node::read(blocks, taken.lookup(id).ok_or(Refusal::NotMapped)?.address);
+    let child = |id| Node::read(blocks, taken.lookup(id).ok_or(Refusal::Unmapped)?.address);
     scan(&root, &tree, &child, visit)
 }
 
@@ -169,15 +170,15 @@ pub struct ObjectMap<'a> {
 impl<'a> ObjectMap<'a> {
     pub fn load(blocks: &Blocks<'a>, address: u64) -> Step<Self> {
         let bytes = blocks.object(address)?;
-        need(object::KIND.of(bytes) == object::OBJECT_MAP, Refusal::Kind)?;
+        need(object::KIND.of(bytes) == object::OBJECT_MAP, Refusal::WrongKind)?;
         let storage = object_map::TREE_TYPE.of(bytes) >> object_map::STORAGE_SHIFT;
-        need(storage == object_map::PHYSICAL, Refusal::Kind)?;
+        need(storage == object_map::PHYSICAL, Refusal::WrongKind)?;
         let root_address = object_map::ROOT.of(bytes);
         let root = Node::read(blocks, root_address)?;
         let tree = root.describe()?;
         let sizes = (tree.key_size, tree.value_size);
         let expected = (crate::fields::mapped::SIZE, crate::fields::mapped::SIZE);
-        need(tree.flags & description::PHYSICAL != 0 && sizes == expected, Refusal::Layout)?;
+        need(tree.flags & description::PHYSICAL != 0 && sizes == expected, Refusal::BadNode)?;
         Ok(ObjectMap { address, root_address, root, tree })
     }
 
@@ -209,7 +210,7 @@ struct Walk<'w, 'a> {
 
 impl Walk<'_, '_> {
     fn from(&mut self, address: u64, level: u64) -> Step<()> {
-        need(level <= WALK_LEVELS && self.walked.nodes < self.blocks.count, Refusal::Walk)?;
+        need(level <= WALK_LEVELS && self.walked.nodes < self.blocks.count, Refusal::TooManyNodes)?;
         self.walked.nodes += 1;
         self.walked.levels = self.walked.levels.max(level);
         let node = Node::read(self.blocks, address)?;
@@ -253,9 +254,9 @@ mod tests {
     #[test]
     fn levels_go_up_to_32_and_fall_by_one() {
         assert_eq!(scanned(&[32]), Ok(()));
-        assert_eq!(scanned(&[33]), Err(Refusal::Layout));
+        assert_eq!(scanned(&[33]), Err(Refusal::BadNode));
         assert_eq!(scanned(&[1, 0]), Ok(()));
-        assert_eq!(scanned(&[2, 0]), Err(Refusal::Level));
-        assert_eq!(scanned(&[0, 0]), Err(Refusal::Level));
+        assert_eq!(scanned(&[2, 0]), Err(Refusal::WrongLevel));
+        assert_eq!(scanned(&[0, 0]), Err(Refusal::WrongLevel));
     }
 }

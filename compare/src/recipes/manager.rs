@@ -36,7 +36,11 @@ pub fn other_length(d: &mut Draft) -> Option<String> {
 /// The lists stand in bytes that no field of ours uses, so that a manager without its last bytes would still do.
 pub fn short(d: &mut Draft) -> Option<String> {
     let object = d.first(Role::Manager)?;
-    let lists = [(manager::INDEX_OFFSET, manager::INDEX), (manager::CHUNK_INFO_OFFSET, manager::CHUNK_INFO_ADDRESS)];
+    let lists = [
+        (manager::INDEX_OFFSET, manager::INDEX),
+        (manager::CHUNK_INFO_OFFSET, manager::CHUNK_INFO_ADDRESS),
+        (manager::FREE_NEXT_OFFSET, manager::FREE_NEXT),
+    ];
     let mut at = manager::SPARE.start;
     for (offset, name) in lists {
         d.set(object, offset, at as u64);

@@ -24,7 +24,7 @@ pub struct Audited {
 }
 
 // What was counted after a step along a list, and where it came to.
-pub struct AuditStep {
+pub(crate) struct AuditStep {
     pub step: Step,
     pub audit: Audit,
 }

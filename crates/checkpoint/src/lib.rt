@@ -46,13 +46,13 @@ pub enum ContainerAnswer {
 }
 
 // Where a block of a chain stands, unless its address is a bad one.
-pub enum Link {
+pub(crate) enum Link {
     At(Address),
     Outside,
 }
 
 // Whether a block of a chain loads, and is the last.
-pub enum LinkTest {
+pub(crate) enum LinkTest {
     Fails,
     Ends,
     Onward,
@@ -71,7 +71,7 @@ pub enum Mapped {
 }
 
 // What one block of a chain says of an id.
-pub enum LinkLookup {
+pub(crate) enum LinkLookup {
     Found(Mapping),
     Ends,
     Onward,

@@ -2,6 +2,7 @@
 use mathlib.Core.Path.{_≡_, refl, ap, _∙_}
 use mathlib.Core.Bool.{Bool, true, false, _&&_}
 use mathlib.Core.List.{List, [], _∷_, _++_, append-nil}
+use mathlib.Core.Option.{some}
 use mathlib.Core.Logic.{_≢_}
 use Prim.Native.Nat.{ℕ, zero, suc, _+_, _<_}
 use native.Mathlib.Omega.{arith}
@@ -23,7 +24,6 @@ use Rattle.checkpoint.specs.declared.Candidate.{Candidate}
 use Rattle.checkpoint.specs.declared.Best.{Best}
 use Rattle.checkpoint.specs.declared.Best.the-variants.{Superblock, Nothing}
 use Rattle.checkpoint.specs.declared.Mapping.{Mapping}
-use Rattle.commit.specs.Commit.{Takes, takenAt}
 
 -- the numbers of the blocks from a on
 unfoldable pub numbersFrom : ℕ → ℕ → List ℕ
@@ -40,7 +40,7 @@ abbrev Below : (ℕ → List ℕ) → ℕ → ℕ → ℕ → Type 0
 Below f x left a = (j : ℕ) → j < left → sound (f (a + j)) ≡ true → xidOf (f (a + j)) < x
 
 -- every one but the one at index k
-abbrev BelowBut : (ℕ → List ℕ) → ℕ → ℕ → ℕ → ℕ → Type 0
+abbrev pub BelowBut : (ℕ → List ℕ) → ℕ → ℕ → ℕ → ℕ → Type 0
 BelowBut f x k left a = (j : ℕ) → j < left → j ≢ k → sound (f (a + j)) ≡ true → xidOf (f (a + j)) < x
 
 below-head : (f : ℕ → List ℕ) (x left a : ℕ) → Below f x (suc left) a → sound (f a) ≡ true → xidOf (f a) < x
@@ -103,8 +103,18 @@ finds f x (suc k) (suc left) i a best h s q low e =
     (lower-here (sound (f a)) (xidOf (f a)) x best i e (but-head f x k left a low))
     ∙ ap {B = Best} (λ (n : ℕ). Superblock (record { at = n; xid = x })) next
 
--- the superblock at index at is tried first, and its chain loads
-module _ (f : ℕ → List ℕ) (g : Geometry) (at : ℕ) (ms : List Mapping) (t : Takes f g at ms) where
+-- the superblock at index at is the only sound one with the highest xid, and its chain loads as ms
+pub record Leads (f : ℕ → List ℕ) (g : Geometry) (at : ℕ) (ms : List Mapping) : Type 0 where
+  pub inside : at < g .ring
+  pub is-sound : sound (f (g .base + at)) ≡ true
+  pub highest : BelowBut f (xidOf (f (g .base + at))) at (g .ring) (g .base)
+  pub loads : run f (chain g (f (g .base + at))) ≡ given (some ms)
+
+abbrev pub takenAt : (ℕ → List ℕ) → Geometry → ℕ → List Mapping → Taken
+takenAt f g at ms = record { sb = f (g .base + at); at = at; map = ms }
+
+-- it is tried first, and taken
+module _ (f : ℕ → List ℕ) (g : Geometry) (at : ℕ) (ms : List Mapping) (t : Leads f g at ms) where
   abbrev area : List (List ℕ)
   area = blocksFrom f (g .ring) (g .base)
 

@@ -1,24 +1,25 @@
 -- The rules can be kept: a commit of transaction 8 on the 16-block container, its map and its superblock in the two free
--- blocks of the descriptor area. The finished image's answer is another than the old one's.
+-- blocks of the descriptor area. The finished image's answer is another than the old one's. ExampleCuts.antt cuts it.
 use mathlib.Core.Path.{_≡_, refl, sym, ap, _∙_}
-use mathlib.Core.Bool.{false, true≢false}
+use mathlib.Core.Bool.{true, false, true≢false}
 use mathlib.Core.List.{List, [], _∷_}
 use mathlib.Core.Logic.{_≢_}
 use Prim.Native.Nat.{ℕ, zero, suc, _+_, _*_, _<_}
 use native.Mathlib.Omega.{arith}
-use native.Mathlib.Nat.{le-of-suc-le-suc, not-suc-le-zero}
 use lib.ListN.{replicate}
+use Rattle.fields.specs.Header.{xidOf}
 use Rattle.fields.proofs.Rows.{Row, blockFrom}
 use Rattle.blocks.specs.Reads.{visits}
 use Rattle.blocks.specs.Blocks.{blockOf}
 use Rattle.checkpoint.specs.Superblock.{sound}
+use Rattle.checkpoint.specs.Checkpoint.{Taken}
 use Rattle.checkpoint.specs.declared.Geometry.{Geometry}
-use Rattle.checkpoint.specs.declared.Mapping.{Mapping}
 use Rattle.space_check.specs.Check.{check}
 use Rattle.samples.proofs.Computing.{computed}
 use Rattle.samples.proofs.Container.{blockBytes, managerId, managerBlock, superblock, checkpointMap, roomy}
 use Rattle.commit.specs.Stores.{Store, touched, touchedFrom, blockTouched, overwrite, finished}
-use Rattle.commit.specs.Commit.{Takes, Rules, kept, noneOf}
+use Rattle.commit.specs.Commit.{Takes, Rules}
+use Rattle.commit.proofs.Roles.{noneOf, kept, kept-enough}
 
 abbrev pub handed : List ℕ
 handed = replicate 16 255
@@ -27,47 +28,68 @@ handed = replicate 16 255
 abbrev pub stored : ℕ → List Row → Store
 stored n rows = record { at = n * blockBytes; bytes = blockFrom blockBytes 0 rows [] }
 
+-- transaction 8's map, in block n
+unfoldable pub newMap : ℕ → Store
+unfolding blockFrom checkpointMap
+newMap n = stored n (checkpointMap 4 0x804fc1d4bfb029fa 8)
+
+unfoldable pub newSuperblock : Store
+unfolding blockFrom superblock
+newSuperblock = stored 4 (superblock 4 0x3b161c620296771b 8 2)
+
 -- the new map in block 3, then the new superblock in block 4
 unfoldable pub commit : List Store
-unfolding blockFrom superblock checkpointMap
-commit = stored 3 (checkpointMap 4 0x804fc1d4bfb029fa 8) ∷ stored 4 (superblock 4 0x3b161c620296771b 8 2) ∷ []
+unfolding newMap newSuperblock
+commit = newMap 3 ∷ newSuperblock ∷ []
 
-abbrev pub geometry : Geometry
-geometry = record { size = blockBytes; count = 16; base = 1; ring = 4 }
+-- what block 0 says
+abbrev pub layout : Geometry
+layout = record { size = blockBytes; count = 16; base = 1; ring = 4 }
 
-abbrev pub mappings : List Mapping
-mappings = record { id = record { 0 = managerId }; size = blockBytes; address = record { 0 = managerBlock 4 } } ∷ []
+-- the superblock in block 2, at index 1, and its map
+abbrev pub taken : Taken
+taken = record {
+  sb = blockOf roomy blockBytes 2;
+  at = 1;
+  map = record { id = record { 0 = managerId }; size = blockBytes; address = record { 0 = managerBlock 4 } } ∷ [];
+}
+
+-- a claim about each index of the descriptor area
+pub each-index : (P : ℕ → Type 0) → P 0 → P 1 → P 2 → P 3 → (j : ℕ) → j < 4 → P j
+each-index P a b c d zero h = a
+each-index P a b c d (suc zero) h = b
+each-index P a b c d (suc (suc zero)) h = c
+each-index P a b c d (suc (suc (suc zero))) h = d
+each-index P a b c d (suc (suc (suc (suc j)))) h = absurd (omega arith)
+
+-- the limit of a commit and a cut, at one index
+abbrev pub LimitAt : List Store → List ℕ → ℕ → Type 0
+LimitAt ss cut j =
+    blockTouched ss blockBytes (1 + j) ≡ true → sound (blockOf cut blockBytes (1 + j)) ≡ true → xidOf (blockOf cut blockBytes (1 + j)) < xidOf (taken .sb)
 
 -- the superblock in block 2, at index 1, is the only sound one
 only-sound : (j : ℕ) → j < 4 → j ≢ 1 → sound (blockOf roomy blockBytes (1 + j)) ≡ false
 unfolding computed roomy
-only-sound zero h ne = refl
-only-sound (suc zero) h ne = absurd (ne refl)
-only-sound (suc (suc zero)) h ne = refl
-only-sound (suc (suc (suc zero))) h ne = refl
-only-sound (suc (suc (suc (suc j)))) h ne = absurd (not-suc-le-zero (le-of-suc-le-suc (le-of-suc-le-suc (le-of-suc-le-suc (le-of-suc-le-suc h)))))
+only-sound = each-index (λ j. j ≢ 1 → sound (blockOf roomy blockBytes (1 + j)) ≡ false) (λ _. refl) (λ ne. absurd (ne refl)) (λ _. refl) (λ _. refl)
 
-takes : Takes (blockOf roomy blockBytes) geometry 1 mappings
+pub takes : Takes (blockOf roomy blockBytes) layout taken
 unfolding computed roomy
-takes = record {
-  inside = omega arith;
-  is-sound = refl;
-  highest = λ j h ne e. absurd (true≢false (sym e ∙ only-sound j h ne));
-  loads = refl;
-}
+takes = record { taken = refl; highest = λ j h ne e. absurd (true≢false (sym e ∙ only-sound j h ne)) }
 
-pub rules : Rules roomy handed commit
+pub stays : noneOf (blockTouched commit blockBytes) (kept (blockOf roomy blockBytes) layout handed taken) ≡ true
 unfolding computed visits roomy commit kept noneOf touched touchedFrom blockTouched
+stays = refl
+
+unfoldable pub rules : Rules roomy handed commit
+unfolding computed roomy
 rules = record {
-  g = geometry;
-  at = 1;
-  ms = mappings;
+  g = layout;
+  t = taken;
   opens = refl;
   takes = takes;
-  untouched = refl;
+  untouched = kept-enough (blockOf roomy blockBytes) layout handed taken takes commit stays;
 }
 
--- xid of a reported answer
 pub old-xid : check roomy handed .answer .report .xid ≡ 7
 unfolding computed roomy
 old-xid = refl

@@ -109,7 +109,7 @@ unfolding finished
 finished-length [] image = refl
 finished-length (s ∷ ss) image = finished-length ss (overwrite (s .at) (s .bytes) image) ∙ overwrite-length (s .at) (s .bytes) image
 
-finished-byte : (ss : List Store) (image : List ℕ) (i : ℕ) → i < length image → getD (finished ss image) i 0 ≡ finalByte ss i (getD image i 0)
+pub finished-byte : (ss : List Store) (image : List ℕ) (i : ℕ) → i < length image → getD (finished ss image) i 0 ≡ finalByte ss i (getD image i 0)
 unfolding finished finalByte
 finished-byte [] image i h = refl
 finished-byte (s ∷ ss) image i h =
@@ -121,7 +121,7 @@ unfolding touched finalByte
 final-untouched [] i x e = refl
 final-untouched (s ∷ ss) i x e = rw (or-left (covers s i) (touched ss i) e) (final-untouched ss i x (or-right (covers s i) (touched ss i) e))
 
-final-touched : (ss : List Store) (i x y : ℕ) → touched ss i ≡ true → finalByte ss i x ≡ finalByte ss i y
+pub final-touched : (ss : List Store) (i x y : ℕ) → touched ss i ≡ true → finalByte ss i x ≡ finalByte ss i y
 unfolding touched finalByte
 final-touched [] i x y e = absurd (true≢false (sym e))
 final-touched (s ∷ ss) i x y e = go (covers s i) refl (λ h. final-touched ss i x y h)
@@ -147,7 +147,7 @@ finished-cut ss image = record { same-length = finished-length ss image; kept = 
         past-end (finished ss image) i (rw finished-length past) ∙ sym (past-end image i past)
 
 -- a complete image has each touched byte's final content
-complete-byte : (ss : List Store) (i : ℕ) (cut : List ℕ) → completeFrom ss i cut ≡ true → (j : ℕ) → j < length cut → touched ss (i + j) ≡ true → getD cut j 0 ≡ finalByte ss (i + j) 0
+pub complete-byte : (ss : List Store) (i : ℕ) (cut : List ℕ) → completeFrom ss i cut ≡ true → (j : ℕ) → j < length cut → touched ss (i + j) ≡ true → getD cut j 0 ≡ finalByte ss (i + j) 0
 unfolding completeFrom
 complete-byte ss i [] e j h t = absurd (not-suc-le-zero h)
 complete-byte ss i (x ∷ cut) e zero h t =

@@ -4,11 +4,11 @@
 -- Not assumed: that the bytes of a store arrive in order, or one store before another; that a torn block holds old or new
 -- bytes; that stores are aligned to blocks, or lie inside the image; that the last store is a superblock.
 use mathlib.Core.Path.{_≡_}
-use mathlib.Core.Bool.{Bool, true, false, not, _&&_}
-use mathlib.Core.List.{List, [], _∷_, _++_}
-use mathlib.Core.Option.{some}
+use mathlib.Core.Bool.{true, false}
+use mathlib.Core.List.{List, [], _∷_}
 use mathlib.Core.Logic.{_≢_}
-use Prim.Native.Nat.{ℕ, _+_, _<_}
+use Prim.Native.Nat.{ℕ, _+_, _≤_, _<_}
+use lib.Dec.{eqb}
 use lib.ListN.{length, take}
 use Rattle.fields.specs.Choice.{pick}
 use Rattle.fields.specs.Header.{xidOf}
@@ -16,54 +16,55 @@ use Rattle.blocks.specs.Reads.{run, noBlocks, visits, given}
 use Rattle.blocks.specs.Blocks.{blockOf}
 use Rattle.checkpoint.specs.Superblock.{sound}
 use Rattle.checkpoint.specs.Geometry.{geometry, leastSize}
-use Rattle.checkpoint.specs.Map.{chain}
-use Rattle.checkpoint.specs.Checkpoint.{Taken}
+use Rattle.checkpoint.specs.Checkpoint.{Taken, takeSuperblock}
 use Rattle.checkpoint.specs.declared.Geometry.{Geometry}
-use Rattle.checkpoint.specs.declared.Mapping.{Mapping}
-use Rattle.space_check.specs.Check.{Result, check, rest}
+use Rattle.space_check.specs.Check.{Result, check, pass}
 use Rattle.commit.specs.Stores.{Store, CutOf, blockTouched, finished, complete}
 
--- "Run one takes the only sound superblock with the highest xid": the one at index at of the descriptor area, whose chain loads as ms
-pub record Takes (f : ℕ → List ℕ) (g : Geometry) (at : ℕ) (ms : List Mapping) : Type 0 where
-  pub inside : at < g .ring
-  pub is-sound : sound (f (g .base + at)) ≡ true
-  pub highest : (j : ℕ) → j < g .ring → j ≢ at → sound (f (g .base + j)) ≡ true → xidOf (f (g .base + j)) < xidOf (f (g .base + at))
-  pub loads : run f (chain g (f (g .base + at))) ≡ given (some ms)
+-- "Run one takes the only sound superblock with the highest xid": t is the one taken, of block 0's descriptor area
+pub record Takes (f : ℕ → List ℕ) (g : Geometry) (t : Taken) : Type 0 where
+  pub taken : run f (takeSuperblock g) ≡ given t
+  pub highest : (j : ℕ) → j < g .ring → j ≢ t .at → sound (f (g .base + j)) ≡ true → xidOf (f (g .base + j)) < xidOf (t .sb)
 
-abbrev pub takenAt : (ℕ → List ℕ) → Geometry → ℕ → List Mapping → Taken
-takenAt f g at ms = record { sb = f (g .base + at); at = at; map = ms }
+-- the blocks that a pass reads, each as often as it is read; "a refused pass, only those it read up to its refusal"
+unfoldable pub blocksRead : (ℕ → List ℕ) → Geometry → List ℕ → List ℕ
+blocksRead f g map = 0 ∷ visits f (pass g map)
 
--- "touches none of the blocks read except descriptor blocks, other than the taken superblock's, read in no second role": of
--- the blocks read these are left, since all others are the descriptor area's (proofs/Crash.antt, `pass-visits`): block 0, the
--- taken superblock, its map blocks, and what is read once it is taken; "a refused pass, only those it read up to its refusal"
-unfoldable pub kept : (ℕ → List ℕ) → Geometry → List ℕ → ℕ → List Mapping → List ℕ
-kept f g map at ms = 0 ∷ (g .base + at) ∷ (visits f (chain g (f (g .base + at))) ++ visits f (rest g map (takenAt f g at ms)))
+unfoldable pub timesRead : ℕ → List ℕ → ℕ
+timesRead n [] = 0
+timesRead n (m ∷ reads) = pick (eqb n m) 1 0 + timesRead n reads
 
-unfoldable pub noneOf : (ℕ → Bool) → List ℕ → Bool
-noneOf test [] = true
-noneOf test (n ∷ ns) = not (test n) && noneOf test ns
+-- "descriptor blocks, other than the taken superblock's, read in no second role"
+pub record Excepted (g : Geometry) (t : Taken) (reads : List ℕ) (n : ℕ) : Type 0 where
+  -- in the area that block 0 names
+  pub descriptor : (g .base ≤ n) × (n < g .base + g .ring)
+  pub other : n ≢ g .base + t .at
+  -- the search for superblocks, its first role, reads each block of the area once; in a second role it is read again
+  pub once : timesRead n reads ≡ 1
+
+-- "touches none of the blocks read except" those. proofs/Roles.antt: that is, block 0, the taken superblock's block, its map blocks
+-- and all that is read once it is taken stay as they are
+abbrev pub TouchesNoneRead : List Store → Geometry → Taken → List ℕ → Type 0
+TouchesNoneRead ss g t reads = (n : ℕ) → 0 < timesRead n reads → blockTouched ss (g .size) n ≡ true → Excepted g t reads n
 
 -- document 01's commit rules, for an image, the block map that both runs get, and a commit
 pub record Rules (image map : List ℕ) (ss : List Store) : Type 0 where
   pub g : Geometry
-  pub at : ℕ
-  pub ms : List Mapping
+  pub t : Taken
   pub opens : run noBlocks (geometry (length image) (take leastSize image) (length map)) ≡ given g
-  pub takes : Takes (blockOf image (g .size)) g at ms
-  pub untouched : noneOf (blockTouched ss (g .size)) (kept (blockOf image (g .size)) g map at ms) ≡ true
+  pub takes : Takes (blockOf image (g .size)) g t
+  pub untouched : TouchesNoneRead ss g t (blocksRead (blockOf image (g .size)) g map)
 
 -- "no touched descriptor block passes as sound with an xid at or above run one's"
-unfoldable pub Limit : {image map : List ℕ} {ss : List Store} → Rules image map ss → List ℕ → Type 0
-Limit {image} {map} {ss} r cut =
-    let size = r .g .size in
-    let base = r .g .base in
+unfoldable pub Limit : List Store → Geometry → Taken → List ℕ → Type 0
+Limit ss g t cut =
     (j : ℕ)
-    → j < r .g .ring
-    → blockTouched ss size (base + j) ≡ true
-    → sound (blockOf cut size (base + j)) ≡ true
-    → xidOf (blockOf cut size (base + j)) < xidOf (blockOf image size (base + r .at))
+    → j < g .ring
+    → blockTouched ss (g .size) (g .base + j) ≡ true
+    → sound (blockOf cut (g .size) (g .base + j)) ≡ true
+    → xidOf (blockOf cut (g .size) (g .base + j)) < xidOf (t .sb)
 
--- "Both runs get equal maps."
+-- "Both runs get equal maps." Run one has no cut before it: its half of the equation holds by definition, and run two's is proved
 pub record Runs : Type 0 where
   pub one : Result
   pub two : Result
@@ -80,5 +81,5 @@ abbrev pub Crash : Type 0
 Crash =
     (image map : List ℕ) (ss : List Store) (r : Rules image map ss) (cut : List ℕ)
     → CutOf ss image cut
-    → (complete ss cut ≡ false → Limit r cut)
+    → (complete ss cut ≡ false → Limit ss (r .g) (r .t) cut)
     → runs image cut map ≡ promised ss image cut map

@@ -1,15 +1,18 @@
 -- Laws of numbers stored in a row.
 use mathlib.Core.List.{List, [], _∷_, _++_, map, flatMap, flatten}
 use mathlib.Core.Path.{_≡_, refl, sym, ap, _∙_}
-use Prim.Native.Nat.{ℕ, zero, suc, _+_, _*_, _≤_, _<_}
+use Prim.Native.Nat.{ℕ, zero, suc, _+_, _*_, _-_, _≤_, _<_}
 use native.Mathlib.Nat.{add-zero, mul-zero}
 use native.Mathlib.Numerals.{add-one}
 use native.Mathlib.Omega.{arith}
 use lib.ListN.{length, getD, set, take, drop, length-append, length-set, length-map, drop-of-length-le}
-use lib.Seq.{drop-cons, take-nil}
-use Rattle.report.specs.Report.{logged, kinds, endingNumber}
+use lib.Seq.{slice, slice-cons, slice-empty, length-slice, drop-cons, take-nil}
+use Rattle.report.specs.Report.{endingNumber}
 use Rattle.report.specs.declared.Answer.{Answer}
-use Rattle.interface.specs.Figures.{problemFigures, overlapFigures, lostCount, lostFirst, figuresOf, stored, answerFigures, written}
+use Rattle.report.specs.declared.Report.{Report}
+use Rattle.interface.specs.Places.{refusalAt, problemAt, freeAt, overlapsAt, overlapAt, lostAt, leakedAt, answerFigures}
+use Rattle.interface.specs.Figures.{problemFigures, overlapFigures, lostFigures, auditFigures, baseKinds, claimFigures, baseFigures, laterFigures, figuresOf, written}
+use Rattle.interface.specs.contracts.Stored.{stored, Stores, laterAt}
 
 length-stored : (l : List ℕ) (at : ℕ) (xs : List ℕ) → length (stored l at xs) ≡ length l
 unfolding stored
@@ -21,12 +24,20 @@ pub same-stores : (a b : List ℕ) (i j : ℕ) (xs ys : List ℕ) → stored a i
 same-stores a b i j xs ys e = sym (length-stored a i xs) ∙ ap length e ∙ length-stored b j ys
 
 -- two rows, one after the other
-pub stored-append : (l : List ℕ) (at : ℕ) (xs ys : List ℕ) → stored l at (xs ++ ys) ≡ stored (stored l at xs) (at + length xs) ys
+stored-append : (l : List ℕ) (at : ℕ) (xs ys : List ℕ) → stored l at (xs ++ ys) ≡ stored (stored l at xs) (at + length xs) ys
 unfolding stored
 stored-append l at [] ys = rw add-zero refl
 stored-append l at (x ∷ xs) ys = stored-append (set l at x) (suc at) xs ys ∙ ap (λ (k : ℕ). stored (stored (set l at x) (suc at) xs) k ys) (omega arith)
 
--- what is left of a row, once its i-th number is stored
+pub stores-then : (l m n : List ℕ) (from next to : ℕ) (xs ys : List ℕ) → Stores l m from next xs → Stores m n next to ys → Stores l n from to (xs ++ ys)
+stores-then l m n from next to xs ys s t =
+    (simp length-append (omega (arith, s .0, t .0)), t .1 ∙ rw (s .1, ← s .0) (sym (stored-append l from xs ys)))
+
+pub stores-one : (l after : List ℕ) (at x : ℕ) → after ≡ set l at x → Stores l after at (at + 1) (x ∷ [])
+unfolding stored
+stores-one l after at x e = (refl, e)
+
+-- a row stored number by number: what is left once the i-th is stored, and the whole once none is left
 module _ (xs : List ℕ) (at i : ℕ) where
   pub number-stored : (l after : List ℕ) (x : ℕ) → after ≡ set l (at + i) x → x ≡ getD xs i 0 → i < length xs
       → stored after (at + (i + 1)) (drop (i + 1) xs) ≡ stored l (at + i) (drop i xs)
@@ -35,22 +46,52 @@ module _ (xs : List ℕ) (at i : ℕ) where
       let k : at + (i + 1) ≡ suc (at + i) = omega arith in
       rw (e, is, k, add-one, drop-cons xs i 0)
 
-  pub numbers-stored : (l : List ℕ) → length xs ≤ i → stored l (at + i) (drop i xs) ≡ l
+  pub numbers-stored : (l after : List ℕ) → length xs ≤ i → stored after (at + i) (drop i xs) ≡ stored l at xs
+      → Stores l after at (at + length xs) xs
   unfolding stored
-  numbers-stored l h = rw (drop-of-length-le xs h) refl
+  numbers-stored l after h left = (refl, ends ∙ left)
+    where
+      ends : after ≡ stored after (at + i) (drop i xs)
+      ends = rw (drop-of-length-le xs h) refl
 
--- what is left of a list's rows, each w numbers long, once the i-th is stored
-module _ {A : Type 0} (f : A → List ℕ) (w : ℕ) (each : (x : A) → length (f x) ≡ w) (xs : List A) (at i : ℕ) where
-  pub row-stored : (d : A) (l after : List ℕ) → after ≡ stored l (at + w * i) (f (getD xs i d)) → i < length xs
-      → stored after (at + w * (i + 1)) (flatMap f (drop (i + 1) xs)) ≡ stored l (at + w * i) (flatMap f (drop i xs))
+-- the same of a list's rows, each w numbers long
+module _ {A : Type 0} (f : A → List ℕ) (w : ℕ) (each : (x : A) → length (f x) ≡ w) where
+  length-rows : (xs : List A) (n : ℕ) → length xs ≡ n → length (flatMap f xs) ≡ w * n
   unfolding flatMap
-  row-stored d l after e h =
-      let k : at + w * (i + 1) ≡ (at + w * i) + length (f (getD xs i d)) = rw each (omega arith) in
-      rw (e, k, add-one, drop-cons xs i d) (sym (stored-append l (at + w * i) (f (getD xs i d)) (flatMap f (drop (suc i) xs))))
+  length-rows [] n e = rw (← e) (sym (mul-zero w))
+  length-rows (x ∷ xs) (suc n) e = simp length-append (rw (each x, length-rows xs n (omega arith)) (omega arith))
+  length-rows (x ∷ xs) zero e = omega arith
 
-  pub rows-stored : (l : List ℕ) → length xs ≤ i → stored l (at + w * i) (flatMap f (drop i xs)) ≡ l
-  unfolding flatMap stored
-  rows-stored l h = rw (drop-of-length-le xs h) refl
+  module _ (xs : List A) (at i : ℕ) where
+    pub row-stored : (d : A) (l after : List ℕ) (next : ℕ) → Stores l after (at + w * i) next (f (getD xs i d)) → i < length xs
+        → stored after (at + w * (i + 1)) (flatMap f (drop (i + 1) xs)) ≡ stored l (at + w * i) (flatMap f (drop i xs))
+    unfolding flatMap
+    row-stored d l after next s h =
+        let k : at + w * (i + 1) ≡ (at + w * i) + length (f (getD xs i d)) = rw each (omega arith) in
+        rw (s .1, k, add-one, drop-cons xs i d) (sym (stored-append l (at + w * i) (f (getD xs i d)) (flatMap f (drop (suc i) xs))))
+
+    pub rows-stored : (l after : List ℕ) (n : ℕ) → length xs ≡ n → n ≤ i → stored after (at + w * i) (flatMap f (drop i xs)) ≡ stored l at (flatMap f xs)
+        → Stores l after at (at + w * n) (flatMap f xs)
+    unfolding flatMap stored
+    rows-stored l after n e h left = (ap (λ (k : ℕ). at + k) (length-rows xs n e), ends ∙ left)
+      where
+        ends : after ≡ stored after (at + w * i) (flatMap f (drop i xs))
+        ends = let k : length xs ≤ i = omega arith in rw (drop-of-length-le xs k) refl
+
+-- the same of a number from each element of a list's part
+module _ {A : Type 0} (f : A → ℕ) (xs : List A) (to : ℕ) (inside : to ≤ length xs) (at i : ℕ) where
+  pub part-stored : (d : A) (l after : List ℕ) (x next : ℕ) → after ≡ set l at x → x ≡ f (getD xs i d) → next ≡ suc at → i < to
+      → stored after next (map f (slice (i + 1) to xs)) ≡ stored l at (map f (slice i to xs))
+  unfolding stored
+  part-stored d l after x next e is n h = rw (e, is, n, add-one, slice-cons i to xs d h inside)
+
+  pub parts-stored : (l after : List ℕ) (from k : ℕ) → i ≡ to → stored after k (map f (slice i to xs)) ≡ stored l at (map f (slice from to xs))
+      → Stores l after at (at + (to - from)) (map f (slice from to xs))
+  unfolding stored
+  parts-stored l after from k e left = (simp (length-map, length-slice), ends ∙ left)
+    where
+      ends : after ≡ stored after k (map f (slice i to xs))
+      ends = rw (e, slice-empty to xs) refl
 
 -- a row past a list's first place
 stored-tail : (y : ℕ) (l : List ℕ) (at : ℕ) (xs : List ℕ) → stored (y ∷ l) (suc at) xs ≡ y ∷ stored l at xs
@@ -70,55 +111,34 @@ stored-first l [] = rw take-nil refl
 stored-first [] (x ∷ xs) = stored-nowhere 1 xs
 stored-first (y ∷ l) (x ∷ xs) = stored-tail x l 0 xs ∙ ap (λ (r : List ℕ). x ∷ r) (stored-first l xs)
 
-length-rows : {A : Type 0} (f : A → List ℕ) (w : ℕ) → ((x : A) → length (f x) ≡ w) → (xs : List A) (n : ℕ) → length xs ≡ n → length (flatMap f xs) ≡ w * n
-unfolding flatMap
-length-rows f w each [] n e = rw (← e) (sym (mul-zero w))
-length-rows f w each (x ∷ xs) (suc n) e = simp length-append (rw (each x, length-rows f w each xs n (omega arith)) (omega arith))
-length-rows f w each (x ∷ xs) zero e = omega arith
+-- the parts of an answer, one after the other
+pub audit-stored : (a : Answer) (l₀ l₁ l₂ l₃ : List ℕ) (n : ℕ) → n ≡ endingNumber (a .ending)
+    → Stores l₀ l₁ refusalAt problemAt (n ∷ a .report .xid ∷ a .report .«pool_used» ∷ a .report .«pool_unused» ∷ a .report .problems .total ∷ [])
+    → Stores l₁ l₂ problemAt freeAt (flatMap problemFigures (a .report .problems .first))
+    → Stores l₂ l₃ freeAt overlapsAt (a .report .free ∷ a .report .«wrong_chunks» ∷ a .report .«device_free» ∷ [])
+    → Stores l₀ l₃ refusalAt overlapsAt (auditFigures a)
+unfolding auditFigures flatten
+audit-stored a l₀ l₁ l₂ l₃ n number head problems counted =
+    rw (← number) (stores-then _ _ _ _ _ _ _ _ head (stores-then _ _ _ _ _ _ _ _ problems counted))
 
--- a row's first part is stored, and the rest goes on where it ends
-part-stored : (l after : List ℕ) (at next : ℕ) (xs rest : List ℕ) → after ≡ stored l at xs → next ≡ at + length xs → stored l at (xs ++ rest) ≡ stored after next rest
-part-stored l after at next xs rest e k = rw (e, k) (stored-append l at xs rest)
+pub claims-stored : (r : Report) (l₀ l₁ l₂ l₃ l₄ : List ℕ) → l₁ ≡ set l₀ overlapsAt (r .overlaps .total)
+    → Stores l₁ l₂ overlapAt lostAt (flatMap overlapFigures (r .overlaps .first))
+    → Stores l₂ l₃ lostAt leakedAt (lostFigures (slice 0 baseKinds (r .lost)))
+    → Stores l₃ l₄ leakedAt laterAt (r .leaked ∷ r .verdict ∷ [])
+    → Stores l₀ l₄ overlapsAt laterAt (claimFigures r)
+unfolding claimFigures flatten
+claims-stored r l₀ l₁ l₂ l₃ l₄ total first lost totals =
+    stores-then _ _ _ _ _ _ _ _ (stores-one _ _ _ _ total) (stores-then _ _ _ _ _ _ _ _ first (stores-then _ _ _ _ _ _ _ _ lost totals))
 
--- the parts of an answer stored one after the other
-module _
-    (a : Answer) (ps : length (a .report .problems .first) ≡ logged) (os : length (a .report .overlaps .first) ≡ logged) (ls : length (a .report .lost) ≡ kinds)
-    (l₀ l₁ l₂ l₃ l₄ l₅ l₆ l₇ : List ℕ) (n : ℕ) (number : n ≡ endingNumber (a .ending))
-    (head : l₁ ≡ stored l₀ 0 (n ∷ a .report .xid ∷ a .report .«pool_used» ∷ a .report .«pool_unused» ∷ a .report .problems .total ∷ []))
-    (problems : l₂ ≡ stored l₁ 5 (flatMap problemFigures (a .report .problems .first)))
-    (audited : l₃ ≡ stored l₂ 25 (a .report .free ∷ a .report .«wrong_chunks» ∷ a .report .«device_free» ∷ a .report .overlaps .total ∷ []))
-    (overlaps : l₄ ≡ stored l₃ 29 (flatMap overlapFigures (a .report .overlaps .first)))
-    (counts : l₅ ≡ stored l₄ 59 (map lostCount (a .report .lost)))
-    (firsts : l₆ ≡ stored l₅ 68 (map lostFirst (a .report .lost)))
-    (totals : l₇ ≡ stored l₆ 77 (a .report .leaked ∷ a .report .verdict ∷ []))
-  where
-    problem-figures : length (flatMap problemFigures (a .report .problems .first)) ≡ 20
-    problem-figures = length-rows problemFigures 2 (λ x. refl) _ _ ps
+pub base-stored : (a : Answer) (l₀ l₁ l₂ : List ℕ) → Stores l₀ l₁ refusalAt overlapsAt (auditFigures a)
+    → Stores l₁ l₂ overlapsAt laterAt (claimFigures (a .report)) → Stores l₀ l₂ refusalAt laterAt (baseFigures a)
+unfolding baseFigures
+base-stored a l₀ l₁ l₂ = stores-then l₀ l₁ l₂ refusalAt overlapsAt laterAt (auditFigures a) (claimFigures (a .report))
 
-    overlap-figures : length (flatMap overlapFigures (a .report .overlaps .first)) ≡ 30
-    overlap-figures = length-rows overlapFigures 3 (λ x. refl) _ _ os
-
-    count-figures : length (map lostCount (a .report .lost)) ≡ 9
-    count-figures = simp length-map ls
-
-    first-figures : length (map lostFirst (a .report .lost)) ≡ 9
-    first-figures = simp length-map ls
-
-    all-stored : stored l₀ 0 (figuresOf a) ≡ l₇
-    unfolding figuresOf flatten
-    all-stored =
-        rw (← number) (part-stored _ _ _ _ _ _ head refl
-        ∙ part-stored _ _ _ _ _ _ problems (omega (arith, problem-figures))
-        ∙ part-stored _ _ _ _ _ _ audited refl
-        ∙ part-stored _ _ _ _ _ _ overlaps (omega (arith, overlap-figures))
-        ∙ part-stored _ _ _ _ _ _ counts (omega (arith, count-figures))
-        ∙ part-stored _ _ _ _ _ _ firsts (omega (arith, first-figures))
-        ∙ sym totals)
-
-    figures-length : length (figuresOf a) ≡ answerFigures
-    unfolding figuresOf flatten
-    figures-length = simp length-append (rw (problem-figures, overlap-figures, count-figures, first-figures) refl)
-
-    pub all-written : (length l₇ ≡ length l₀) × (l₇ ≡ written a l₀)
-    unfolding written
-    all-written = (sym (ap length all-stored) ∙ length-stored l₀ 0 (figuresOf a), sym all-stored ∙ stored-first l₀ (figuresOf a) ∙ rw figures-length refl)
+pub all-written : (a : Answer) (l₀ l₁ l₂ : List ℕ) → Stores l₀ l₁ refusalAt laterAt (baseFigures a)
+    → Stores l₁ l₂ laterAt answerFigures (laterFigures (a .report)) → l₂ ≡ written a l₀
+unfolding written figuresOf
+all-written a l₀ l₁ l₂ base later =
+    let all = stores-then l₀ l₁ l₂ refusalAt laterAt answerFigures (baseFigures a) (laterFigures (a .report)) base later in
+    let n : length (figuresOf a) ≡ answerFigures = omega (arith, all .0) in
+    all .1 ∙ stored-first l₀ (figuresOf a) ∙ rw n refl

@@ -1,13 +1,31 @@
--- An answer with a number of its own at each place that differs, written out.
+-- An answer whose every figure is 100 more than its place: written out, they count up, so that each stands where its name says.
 use mathlib.Core.List.{List, [], _∷_, flatMap, flatten}
 use mathlib.Core.Path.{_≡_, refl}
-use Prim.Native.Nat.{ℕ}
-use lib.ListN.{length, replicate}
+use Prim.Native.Nat.{ℕ, zero, suc, _+_}
+use lib.ListN.{set}
 use Rattle.blocks.specs.declared.Refusal.the-variants.{ShortMap}
-use Rattle.report.specs.Report.{endingNumber}
+use Rattle.report.specs.Report.{logged, kinds, endingNumber}
 use Rattle.report.specs.declared.Answer.{Answer}
 use Rattle.report.specs.declared.Ending.the-variants.{Refused}
-use Rattle.interface.specs.Figures.{figuresOf, answerFigures}
+use Rattle.report.specs.declared.Lost.{Lost}
+use Rattle.report.specs.declared.Overlap.{Overlap}
+use Rattle.report.specs.declared.Problem.{Problem}
+use Rattle.interface.specs.Places.{refusalAt, xidAt, poolUsedAt, poolUnusedAt, problemsAt, problemAt, freeAt, wrongChunksAt, deviceFreeAt}
+use Rattle.interface.specs.Places.{overlapsAt, overlapAt, lostAt, firstLostAt, leakedAt, verdictAt, answerFigures}
+use Rattle.interface.specs.Figures.{figuresOf, baseFigures, auditFigures, claimFigures, laterFigures}
+
+-- k of each, of which the first has its numbers from a place on
+abbrev problems : ℕ → ℕ → List Problem
+problems zero at = []
+problems (suc k) at = record { kind = 100 + at; block = 101 + at } ∷ problems k (at + 2)
+
+abbrev overlaps : ℕ → ℕ → List Overlap
+overlaps zero at = []
+overlaps (suc k) at = record { block = 100 + at; owner = 101 + at; claimant = 102 + at } ∷ overlaps k (at + 3)
+
+abbrev lost : ℕ → ℕ → ℕ → List Lost
+lost zero at first = []
+lost (suc k) at first = record { count = 100 + at; first = 100 + first } ∷ lost k (at + 1) (first + 1)
 
 abbrev sample : Answer
 sample =
@@ -15,29 +33,26 @@ sample =
       ending = Refused ShortMap;
       report =
           record {
-            xid = 7;
-            «pool_used» = 20;
-            «pool_unused» = 30;
-            problems = record { total = 40; first = record { kind = 1; block = 50 } ∷ replicate 9 (record { kind = 2; block = 60 }) };
-            free = 250;
-            «wrong_chunks» = 260;
-            «device_free» = 270;
-            overlaps = record { total = 280; first = record { block = 290; owner = 3; claimant = 4 } ∷ replicate 9 (record { block = 300; owner = 5; claimant = 8 }) };
-            lost = record { count = 590; first = 680 } ∷ replicate 8 (record { count = 600; first = 690 });
-            leaked = 770;
-            verdict = 2;
+            xid = 100 + xidAt;
+            «pool_used» = 100 + poolUsedAt;
+            «pool_unused» = 100 + poolUnusedAt;
+            problems = record { total = 100 + problemsAt; first = problems logged problemAt };
+            free = 100 + freeAt;
+            «wrong_chunks» = 100 + wrongChunksAt;
+            «device_free» = 100 + deviceFreeAt;
+            overlaps = record { total = 100 + overlapsAt; first = overlaps logged overlapAt };
+            lost = lost kinds lostAt firstLostAt;
+            leaked = 100 + leakedAt;
+            verdict = 100 + verdictAt;
           };
     }
 
--- n times the numbers of a row
-abbrev times : ℕ → List ℕ → List ℕ
-times n row = flatten (replicate n row)
+-- so many numbers, each one more than the last
+abbrev counting : ℕ → ℕ → List ℕ
+counting zero n = []
+counting (suc k) n = n ∷ counting k (n + 1)
 
-sampled : figuresOf sample
-    ≡ flatten ((6 ∷ 7 ∷ 20 ∷ 30 ∷ 40 ∷ 1 ∷ 50 ∷ []) ∷ times 9 (2 ∷ 60 ∷ []) ∷ (250 ∷ 260 ∷ 270 ∷ 280 ∷ 290 ∷ 3 ∷ 4 ∷ []) ∷ times 9 (300 ∷ 5 ∷ 8 ∷ []) ∷ (590 ∷ []) ∷ times 8 (600 ∷ []) ∷ (680 ∷ []) ∷ times 8 (690 ∷ []) ∷ (770 ∷ 2 ∷ []) ∷ [])
-unfolding figuresOf flatMap flatten endingNumber
+-- a refusal's number can't be chosen: 6 is that of a short map
+sampled : figuresOf sample ≡ set (counting answerFigures 100) refusalAt 6
+unfolding figuresOf baseFigures auditFigures claimFigures laterFigures flatMap flatten endingNumber
 sampled = refl
-
-sampled-length : length (figuresOf sample) ≡ answerFigures
-unfolding figuresOf flatMap flatten
-sampled-length = refl

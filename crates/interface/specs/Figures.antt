@@ -1,12 +1,15 @@
--- An answer as 79 numbers in a row, the form in which it crosses to C.
+-- An answer as numbers in a row, the form in which it crosses to C: those of the base, then what came later.
 use mathlib.Core.List.{List, [], _∷_, _++_, map, flatMap, flatten}
-use Prim.Native.Nat.{ℕ, suc}
-use lib.ListN.{length, set, take, drop}
-use Rattle.report.specs.Report.{endingNumber}
+use Prim.Native.Nat.{ℕ}
+use lib.ListN.{length, take, drop}
+use lib.Seq.{slice}
+use Rattle.report.specs.Report.{kinds, endingNumber}
 use Rattle.report.specs.declared.Answer.{Answer}
 use Rattle.report.specs.declared.Lost.{Lost}
 use Rattle.report.specs.declared.Overlap.{Overlap}
 use Rattle.report.specs.declared.Problem.{Problem}
+use Rattle.report.specs.declared.Report.{Report}
+use Rattle.interface.specs.Places.{answerFigures}
 
 abbrev pub problemFigures : Problem → List ℕ
 problemFigures p = p .kind ∷ p .block ∷ []
@@ -20,30 +23,45 @@ lostCount l = l .count
 abbrev pub lostFirst : Lost → ℕ
 lostFirst l = l .first
 
--- 0 the refusal's number, or 0; 1 xid; 2 pool used; 3 pool unused; 4 problems; 5 to 24 the first ten; 25 free; 26 wrong chunks;
--- 27 device free; 28 overlaps; 29 to 58 the first ten; 59 to 67 lost of kinds 1 to 9; 68 to 76 the first of each; 77 leaked; 78 verdict
-unfoldable pub figuresOf : Answer → List ℕ
-figuresOf a =
+-- of kinds in a row: how many of each, then the first of each
+abbrev pub lostFigures : List Lost → List ℕ
+lostFigures lost = map lostCount lost ++ map lostFirst lost
+
+-- the refusal's number, or 0, the xid, and what the bitmaps say
+unfoldable pub auditFigures : Answer → List ℕ
+auditFigures a =
     let r = a .report in
     flatten (
     (endingNumber (a .ending) ∷ r .xid ∷ r .«pool_used» ∷ r .«pool_unused» ∷ r .problems .total ∷ [])
     ∷ flatMap problemFigures (r .problems .first)
-    ∷ (r .free ∷ r .«wrong_chunks» ∷ r .«device_free» ∷ r .overlaps .total ∷ [])
+    ∷ (r .free ∷ r .«wrong_chunks» ∷ r .«device_free» ∷ [])
+    ∷ []
+    )
+
+-- kinds that have their places among the base's numbers
+abbrev pub baseKinds : ℕ
+baseKinds = 9
+
+-- what the claims say against them
+unfoldable pub claimFigures : Report → List ℕ
+claimFigures r =
+    flatten (
+    (r .overlaps .total ∷ [])
     ∷ flatMap overlapFigures (r .overlaps .first)
-    ∷ map lostCount (r .lost)
-    ∷ map lostFirst (r .lost)
+    ∷ lostFigures (slice 0 baseKinds (r .lost))
     ∷ (r .leaked ∷ r .verdict ∷ [])
     ∷ []
     )
 
--- numbers in a row from a place on, as far as the list goes
-unfoldable pub stored : List ℕ → ℕ → List ℕ → List ℕ
-stored l at [] = l
-stored l at (x ∷ xs) = stored (set l at x) (suc at) xs
+unfoldable pub baseFigures : Answer → List ℕ
+baseFigures a = auditFigures a ++ claimFigures (a .report)
 
--- how many numbers an answer has
-abbrev pub answerFigures : ℕ
-answerFigures = 79
+-- kinds beyond the base's, of which there are none yet, come last: who has an array of the base's numbers goes on as before
+unfoldable pub laterFigures : Report → List ℕ
+laterFigures r = lostFigures (slice baseKinds kinds (r .lost))
+
+unfoldable pub figuresOf : Answer → List ℕ
+figuresOf a = baseFigures a ++ laterFigures (a .report)
 
 -- an array after an answer was written into it: a shorter one gets the first numbers, of a longer one the rest is kept
 unfoldable pub written : Answer → List ℕ → List ℕ

@@ -1,4 +1,4 @@
-// An answer as 79 numbers in a row.
+// An answer as numbers in a row.
 use blocks::number_of;
 use report::Answer;
 use report::Ending;
@@ -7,12 +7,17 @@ use report::LOGGED;
 use report::Lost;
 use report::Overlap;
 use report::Problem;
+use report::Report;
 ghost use mathlib.Core.List.{map, flatMap};
 ghost use mathlib.Core.Path.{_≡_};
-ghost use Prim.Native.Nat.{_<_, _^_};
+ghost use Prim.Native.Nat.{_+_, _*_, _-_, _≤_, _<_, _^_};
 ghost use lib.ListN.{length, set};
+ghost use lib.Seq.{slice};
 ghost use Rattle.report.specs.Report.{logged, kinds, endingNumber};
-ghost use Rattle.interface.specs.Figures.{problemFigures, overlapFigures, lostCount, lostFirst, stored, answerFigures, written};
+ghost use Rattle.interface.specs.Places.{overlapsAt, answerFigures};
+ghost use Rattle.interface.specs.Figures.{problemFigures, overlapFigures, lostCount, lostFirst, lostFigures};
+ghost use Rattle.interface.specs.Figures.{auditFigures, claimFigures, baseFigures, laterFigures, written};
+ghost use Rattle.interface.specs.contracts.Stored.{Stores, laterAt};
 
 // How many numbers a problem and an overlap have.
 const PROBLEM_FIGURES: usize = 2;
@@ -20,17 +25,22 @@ const PROBLEM_FIGURES: usize = 2;
 const OVERLAP_FIGURES: usize = 3;
 
 // Where the parts begin.
-const PROBLEMS: usize = 5;
+const PROBLEM: usize = 5;
 
-const AUDITED: usize = 25;
+const FREE: usize = 25;
 
-const OVERLAPS: usize = 29;
+const OVERLAPS: usize = 28;
 
-const COUNTS: usize = 59;
+const OVERLAP: usize = 29;
 
-const FIRSTS: usize = 68;
+const LOST: usize = 59;
 
-const TOTALS: usize = 77;
+const LEAKED: usize = 77;
+
+const LATER: usize = 79;
+
+// Kinds whose numbers stand among the base's; those of later kinds follow at the end.
+const BASE_KINDS: usize = 9;
 
 fn ending_number(ending: Ending) -> u64
     ensures { λ r. ⌜ r ≡ endingNumber ending ⌝ }
@@ -53,7 +63,7 @@ fn put(figures: &mut [u64], at: usize, figure: u64)
 // Those that pass the end are left out.
 fn put_all(figures: &mut [u64], at: usize, xs: &[u64])
     requires { ⌜ at < 2 ^ 32 ⌝ }
-    ensures { λ r. ⌜ now (figures .exit) ≡ stored (now (figures .entry)) at (now (xs .entry)) ⌝ }
+    ensures { λ r. ⌜ Stores (now (figures .entry)) (now (figures .exit)) at (at + length (now (xs .entry))) (now (xs .entry)) ⌝ }
 {
     for i in 0..xs.len() {
         put(figures, at + i, xs[i]);
@@ -62,7 +72,7 @@ fn put_all(figures: &mut [u64], at: usize, xs: &[u64])
 
 fn put_problems(figures: &mut [u64], at: usize, problems: [Problem; LOGGED])
     requires { ⌜ at < answerFigures ⌝ }
-    ensures { λ r. ⌜ (length problems ≡ logged) × (now (figures .exit) ≡ stored (now (figures .entry)) at (flatMap problemFigures problems)) ⌝ }
+    ensures { λ r. ⌜ Stores (now (figures .entry)) (now (figures .exit)) at (at + 2 * logged) (flatMap problemFigures problems) ⌝ }
 {
     for i in 0..LOGGED {
         let p = problems[i];
@@ -73,7 +83,7 @@ fn put_problems(figures: &mut [u64], at: usize, problems: [Problem; LOGGED])
 
 fn put_overlaps(figures: &mut [u64], at: usize, overlaps: [Overlap; LOGGED])
     requires { ⌜ at < answerFigures ⌝ }
-    ensures { λ r. ⌜ (length overlaps ≡ logged) × (now (figures .exit) ≡ stored (now (figures .entry)) at (flatMap overlapFigures overlaps)) ⌝ }
+    ensures { λ r. ⌜ Stores (now (figures .entry)) (now (figures .exit)) at (at + 3 * logged) (flatMap overlapFigures overlaps) ⌝ }
 {
     for i in 0..LOGGED {
         let o = overlaps[i];
@@ -82,34 +92,42 @@ fn put_overlaps(figures: &mut [u64], at: usize, overlaps: [Overlap; LOGGED])
     }
 }
 
-fn put_counts(figures: &mut [u64], at: usize, lost: [Lost; KINDS])
-    requires { ⌜ at < answerFigures ⌝ }
-    ensures { λ r. ⌜ (length lost ≡ kinds) × (now (figures .exit) ≡ stored (now (figures .entry)) at (map lostCount lost)) ⌝ }
+// Kinds by their places in a report, from one up to another.
+fn put_counts(figures: &mut [u64], at: usize, lost: [Lost; KINDS], from: usize, to: usize)
+    requires { ⌜ (at < 2 ^ 32) × (from ≤ to) × (to ≤ kinds) ⌝ }
+    ensures { λ r. ⌜ Stores (now (figures .entry)) (now (figures .exit)) at (at + (to - from)) (map lostCount (slice from to lost)) ⌝ }
 {
-    for i in 0..KINDS {
+    for i in from..to {
         let l = lost[i];
-        put(figures, at + i, l.count);
+        put(figures, at + (i - from), l.count);
     }
 }
 
-fn put_firsts(figures: &mut [u64], at: usize, lost: [Lost; KINDS])
-    requires { ⌜ at < answerFigures ⌝ }
-    ensures { λ r. ⌜ now (figures .exit) ≡ stored (now (figures .entry)) at (map lostFirst lost) ⌝ }
+fn put_firsts(figures: &mut [u64], at: usize, lost: [Lost; KINDS], from: usize, to: usize)
+    requires { ⌜ (at < 2 ^ 32) × (from ≤ to) × (to ≤ kinds) ⌝ }
+    ensures { λ r. ⌜ Stores (now (figures .entry)) (now (figures .exit)) at (at + (to - from)) (map lostFirst (slice from to lost)) ⌝ }
 {
-    for i in 0..KINDS {
+    for i in from..to {
         let l = lost[i];
-        put(figures, at + i, l.first);
+        put(figures, at + (i - from), l.first);
     }
 }
 
-// Writes the numbers: as many of them as the array has places.
-pub(crate) fn write_figures(answer: Answer, figures: &mut [u64])
-    ensures { λ r. ⌜ now (figures .exit) ≡ written answer (now (figures .entry)) ⌝ }
+fn put_lost(figures: &mut [u64], at: usize, lost: [Lost; KINDS], from: usize, to: usize)
+    requires { ⌜ (at ≤ answerFigures) × (from ≤ to) × (to ≤ kinds) ⌝ }
+    ensures { λ r. ⌜ Stores (now (figures .entry)) (now (figures .exit)) at (at + 2 * (to - from)) (lostFigures (slice from to lost)) ⌝ }
+{
+    put_counts(figures, at, lost, from, to);
+    put_firsts(figures, at + (to - from), lost, from, to);
+}
+
+// The refusal's number, or 0, the xid, and what the bitmaps say.
+fn write_audit(answer: Answer, figures: &mut [u64])
+    ensures { λ r. ⌜ Stores (now (figures .entry)) (now (figures .exit)) 0 overlapsAt (auditFigures answer) ⌝ }
 {
     let ending = answer.ending;
     let report = answer.report;
     let problems = report.problems;
-    let overlaps = report.overlaps;
     let head = [
         ending_number(ending),
         report.xid,
@@ -118,20 +136,47 @@ pub(crate) fn write_figures(answer: Answer, figures: &mut [u64])
         problems.total,
     ];
     put_all(figures, 0, &head);
-    let first_problems = problems.first;
-    put_problems(figures, PROBLEMS, first_problems);
-    let audited = [
-        report.free,
-        report.wrong_chunks,
-        report.device_free,
-        overlaps.total,
-    ];
-    put_all(figures, AUDITED, &audited);
-    let first_overlaps = overlaps.first;
-    put_overlaps(figures, OVERLAPS, first_overlaps);
+    let first = problems.first;
+    put_problems(figures, PROBLEM, first);
+    let counted = [report.free, report.wrong_chunks, report.device_free];
+    put_all(figures, FREE, &counted);
+}
+
+// What the claims say against them.
+fn write_claims(report: Report, figures: &mut [u64])
+    ensures { λ r. ⌜ Stores (now (figures .entry)) (now (figures .exit)) overlapsAt laterAt (claimFigures report) ⌝ }
+{
+    let overlaps = report.overlaps;
+    put(figures, OVERLAPS, overlaps.total);
+    let first = overlaps.first;
+    put_overlaps(figures, OVERLAP, first);
     let lost = report.lost;
-    put_counts(figures, COUNTS, lost);
-    put_firsts(figures, FIRSTS, lost);
+    put_lost(figures, LOST, lost, 0, BASE_KINDS);
     let totals = [report.leaked, report.verdict as u64];
-    put_all(figures, TOTALS, &totals);
+    put_all(figures, LEAKED, &totals);
+}
+
+fn write_base(answer: Answer, figures: &mut [u64])
+    ensures { λ r. ⌜ Stores (now (figures .entry)) (now (figures .exit)) 0 laterAt (baseFigures answer) ⌝ }
+{
+    write_audit(answer, figures);
+    let report = answer.report;
+    write_claims(report, figures);
+}
+
+// What came after the base, at the end, so that an array of the base's numbers has them as before.
+fn write_later(report: Report, figures: &mut [u64])
+    ensures { λ r. ⌜ Stores (now (figures .entry)) (now (figures .exit)) laterAt answerFigures (laterFigures report) ⌝ }
+{
+    let lost = report.lost;
+    put_lost(figures, LATER, lost, BASE_KINDS, KINDS);
+}
+
+// Writes the numbers: as many of them as the array has places.
+pub(crate) fn write_figures(answer: Answer, figures: &mut [u64])
+    ensures { λ r. ⌜ now (figures .exit) ≡ written answer (now (figures .entry)) ⌝ }
+{
+    write_base(answer, figures);
+    let report = answer.report;
+    write_later(report, figures);
 }

@@ -12,7 +12,7 @@ use Rattle.blocks.specs.Reads.{Outcome, given, refused, run, done, _>>=_, need}
 use Rattle.blocks.specs.Blocks.{readObject, present, field, part}
 use Rattle.blocks.specs.Refusals.{numberOf}
 use Rattle.nodes.specs.Node.{valueEnd, parse, readNode, fixedSlot, variableSlot, slot, valueOf, entry, pointer}
-use Rattle.nodes.specs.Walk.{childrenFrom, each, childrenOf, walkBelow, walk}
+use Rattle.nodes.specs.Walk.{childrenFrom, nextNode, each, childrenOf, walkBelow, walk}
 use Rattle.nodes.specs.declared.Description.{Description}
 
 -- a node of 256 bytes that verifies
@@ -70,5 +70,5 @@ table =
     ∷ []
 
 samples : T (every table)
-unfolding table le num fieldAt seal fletcher checksum verifies run _>>=_ need readObject present field part valueEnd parse readNode fixedSlot variableSlot slot valueOf entry pointer childrenFrom each childrenOf walkBelow walk index leaf
+unfolding table le num fieldAt seal fletcher checksum verifies run _>>=_ need readObject present field part valueEnd parse readNode fixedSlot variableSlot slot valueOf entry pointer childrenFrom nextNode each childrenOf walkBelow walk index leaf
 samples = tt

@@ -42,18 +42,18 @@ pub enum DescriptionAnswer {
     Refused(Refusal),
 }
 
-pub enum SlotAnswer {
+pub(crate) enum SlotAnswer {
     Given(Slot),
     Refused(Refusal),
 }
 
 // A part that must lie wholly inside its node.
-pub enum PartAnswer {
+pub(crate) enum PartAnswer {
     Given(Part),
     Refused(Refusal),
 }
 
-pub enum ValueAnswer {
+pub(crate) enum ValueAnswer {
     Given(Value),
     Refused(Refusal),
 }

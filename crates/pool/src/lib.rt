@@ -17,8 +17,11 @@ ghost use Rattle.block_map.specs.BlockMap.{usedAt};
 ghost use Rattle.manager.specs.contracts.Place.{managerOn};
 ghost use Rattle.pool.specs.Pool.{poolFrom, loadPool, poolIndex, poolMarked, unusedFrom};
 ghost use Rattle.pool.specs.contracts.Place.{poolOn, bitmapOn, bitmapBlockOn, PartAt};
-ghost use Rattle.pool.specs.contracts.Unused.{unusedOne, byteEnd, OneByte};
+ghost use Rattle.pool.specs.contracts.Unused.{unusedOne, byteEnd, pieceEnd, Places, OneByte};
 ghost use Rattle.pool.specs.contracts.Load.{placeOn, indicesOn, BitmapSeen, BitmapsSeen, LoadsPool};
+
+// So many bits has a bitmap's block of the smallest size.
+const PIECE: u64 = 32768;
 
 // Where the pool lies, and through what its bitmap is found: the manager, the ring of its bitmap blocks, how many of these there
 // are, and where in the manager their places in the ring are listed.
@@ -264,20 +267,23 @@ fn byte_end(index: u64, blocks: u64) -> u64
     }
 }
 
-// How many of the pool's blocks from first to end, whose bits are in one byte, are marked but unused; after before.
+// How many of the pool's blocks from first to end, whose bits are in one byte, are marked but unused; after before. A part of the
+// bitmap is at hand.
 fn unused_byte(
     image: &[u8],
     map: &[u8],
     container: Container,
     pool: PoolPlace,
+    part: &[u8],
+    near: u64,
     first: u64,
     end: u64,
     before: u64,
 ) -> u64
-    requires { ⌜ OneByte first end before (pool .blocks) ⌝ }
+    requires { ⌜ PartAt image container pool part near × Places first end before (pool .blocks) × OneByte first end ⌝ }
     ensures { λ r. ⌜ r ≡ unusedFrom container (poolOn image container pool) (bytes map) (end - first) (pool .base + first) before ⌝ }
 {
-    let b = bitmap_byte(image, container, pool, first / BYTE_BITS);
+    let b = byte_near(image, container, pool, part, near, first / BYTE_BITS);
     if b == 0 {
         return before;
     }
@@ -290,6 +296,46 @@ fn unused_byte(
     found
 }
 
+// How many of the pool's blocks from first to end are marked but unused; after before. The bitmap's block with the first of their
+// bits is found once, since it has all of them where they are a piece.
+fn unused_piece(
+    image: &[u8],
+    map: &[u8],
+    container: Container,
+    pool: PoolPlace,
+    first: u64,
+    end: u64,
+    before: u64,
+) -> u64
+    requires { ⌜ Places first end before (pool .blocks) ⌝ }
+    ensures { λ r. ⌜ r ≡ unusedFrom container (poolOn image container pool) (bytes map) (end - first) (pool .base + first) before ⌝ }
+{
+    let size = container.size;
+    let k = block_of_bit(size, first);
+    let part = bitmap_block(image, container, pool, k);
+    let near = k * size;
+    let mut n = before;
+    let mut i = first;
+    while i < end {
+        let to = byte_end(i, end);
+        n = unused_byte(image, map, container, pool, part, near, i, to, n);
+        i = to;
+    }
+    n
+}
+
+// A piece after the pool's block index, or their end.
+fn piece_end(index: u64, blocks: u64) -> u64
+    requires { ⌜ index < blocks ⌝ }
+    ensures { λ r. ⌜ r ≡ pieceEnd index blocks ⌝ }
+{
+    if blocks - index < PIECE {
+        blocks
+    } else {
+        index + PIECE
+    }
+}
+
 // How many pool blocks are marked but unused.
 pub fn unused(image: &[u8], map: &[u8], container: Container, pool: PoolPlace) -> u64
     ensures { λ r. ⌜ r ≡ unusedFrom container (poolOn image container pool) (bytes map) (pool .blocks) (pool .base) 0 ⌝ }
@@ -297,8 +343,8 @@ pub fn unused(image: &[u8], map: &[u8], container: Container, pool: PoolPlace) -
     let mut n = 0;
     let mut i = 0;
     while i < pool.blocks {
-        let end = byte_end(i, pool.blocks);
-        n = unused_byte(image, map, container, pool, i, end, n);
+        let end = piece_end(i, pool.blocks);
+        n = unused_piece(image, map, container, pool, i, end, n);
         i = end;
     }
     n

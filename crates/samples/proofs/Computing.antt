@@ -7,8 +7,8 @@ use Rattle.blocks.specs.Blocks.{blockOf, readRaw, readObject, present, field, p
 use Rattle.blocks.specs.Reads.{run, _>>=_, need}
 use Rattle.nodes.specs.Node.{valueEnd, parse, readNode, describe, fixedSlot, variableSlot, slot, valueOf, entry, pointer}
 use Rattle.nodes.specs.ObjectMap.{readObjectMap, describeMap, loadObjectMap}
-use Rattle.nodes.specs.Scan.{lookAt, leafFrom, indexFrom, scanNode, below, scan}
-use Rattle.nodes.specs.Walk.{childrenFrom, each, childrenOf, walkBelow, walk}
+use Rattle.nodes.specs.Scan.{lookAt, pointerPast, oneBelow, leafFrom, indexFrom, scanNode, below, scan}
+use Rattle.nodes.specs.Walk.{childrenFrom, nextNode, each, childrenOf, walkBelow, walk}
 use Rattle.checkpoint.specs.Checkpoint.{areaFrom, isAfter, isAhead, bestFrom, loaded, try, tryFrom, takeSuperblock, admit}
 use Rattle.checkpoint.specs.Geometry.{powerFrom, sizeAllowed, allowed, geometry}
 use Rattle.checkpoint.specs.Map.{mappingsFrom, belongsTo, chainAddress, chainFrom, chain, lookup}
@@ -25,5 +25,5 @@ use Rattle.totals.specs.Totals.{isLost, lostOf, lostFrom, isLeaked, lostIn, ver
 use Rattle.report.specs.Report.{noProblems, noOverlaps, note, addProblem, addOverlap, zeroReport, refusal, reported, endingNumber}
 
 unfoldable pub computed : List ℕ → List ℕ → Result
-unfolding le num fieldAt bitAt seal fletcher checksum verifies blockOf readRaw readObject present field part sum run _>>=_ need valueEnd parse readNode describe fixedSlot variableSlot slot valueOf entry pointer readObjectMap describeMap loadObjectMap leafFrom lookAt indexFrom scanNode below scan childrenFrom each childrenOf walkBelow walk areaFrom isAfter isAhead bestFrom loaded try tryFrom takeSuperblock admit powerFrom sizeAllowed allowed geometry mappingsFrom belongsTo chainAddress chainFrom chain lookup sound chunkAt chunksFrom managerFrom accepted managerAt managerBy manager listFrom unless auditUse enter markSet markBit markFrom tally tallyBitmap readBitmap auditBitmap auditChunk auditChunks enterInfo readInfo auditInfo auditInfos auditDevice auditQueuedBlock auditQueuedFrom auditQueued update usedAt cleared countIn firstIn audit claimAreas claimObjects claimTrees claims claimAndReport auditAndClaim isLost lostOf lostFrom lostIn isLeaked verdictOf reportOf poolPart managerPart loadParts body rest pass settle checkIn check claimBlock claimFrom claim claimNode mappedAddress claimMapped claimMapping claimMappings claimQueued bitmapsFrom poolFrom loadPool poolMarked unusedFrom runCount runOf nodeBy scanQueue queueFrom queue noProblems noOverlaps note addProblem addOverlap zeroReport refusal reported endingNumber
+unfolding le num fieldAt bitAt seal fletcher checksum verifies blockOf readRaw readObject present field part sum run _>>=_ need valueEnd parse readNode describe fixedSlot variableSlot slot valueOf entry pointer readObjectMap describeMap loadObjectMap leafFrom lookAt pointerPast oneBelow indexFrom scanNode below scan childrenFrom nextNode each childrenOf walkBelow walk areaFrom isAfter isAhead bestFrom loaded try tryFrom takeSuperblock admit powerFrom sizeAllowed allowed geometry mappingsFrom belongsTo chainAddress chainFrom chain lookup sound chunkAt chunksFrom managerFrom accepted managerAt managerBy manager listFrom unless auditUse enter markSet markBit markFrom tally tallyBitmap readBitmap auditBitmap auditChunk auditChunks enterInfo readInfo auditInfo auditInfos auditDevice auditQueuedBlock auditQueuedFrom auditQueued update usedAt cleared countIn firstIn audit claimAreas claimObjects claimTrees claims claimAndReport auditAndClaim isLost lostOf lostFrom lostIn isLeaked verdictOf reportOf poolPart managerPart loadParts body rest pass settle checkIn check claimBlock claimFrom claim claimNode mappedAddress claimMapped claimMapping claimMappings claimQueued bitmapsFrom poolFrom loadPool poolMarked unusedFrom runCount runOf nodeBy scanQueue queueFrom queue noProblems noOverlaps note addProblem addOverlap zeroReport refusal reported endingNumber
 computed image map = check image map

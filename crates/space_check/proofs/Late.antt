@@ -20,8 +20,8 @@ use Rattle.blocks.specs.declared.ObjectId.{ObjectId}
 use Rattle.blocks.specs.declared.Refusal.{Refusal}
 use Rattle.nodes.specs.Node.{Entry, isLeaf, isFixed, ghostOffset, parse, readNode, describe, fixedSlot, variableSlot, slot, valueOf, entry, pointer}
 use Rattle.nodes.specs.ObjectMap.{readObjectMap, describeMap, loadObjectMap}
-use Rattle.nodes.specs.Scan.{lookAt, leafFrom, indexFrom, scanNode, below, scan}
-use Rattle.nodes.specs.Walk.{Walked, childrenFrom, each, walkBelow, walk, childrenOf}
+use Rattle.nodes.specs.Scan.{lookAt, pointerPast, oneBelow, leafFrom, indexFrom, scanNode, below, scan}
+use Rattle.nodes.specs.Walk.{Walked, childrenFrom, nextNode, each, walkBelow, walk, childrenOf}
 use Rattle.nodes.specs.declared.Description.{Description}
 use Rattle.nodes.specs.declared.Slot.{Slot}
 use Rattle.checkpoint.specs.Checkpoint.{Taken}
@@ -187,6 +187,14 @@ unfolding lookAt
 late-lookAt d b zero i = late-done _
 late-lookAt d b (suc left) i = late-bind _ _ (late-entry d b i) (λ e. late-done _)
 
+late-pointerPast : (d : Description) (b : List ℕ) (left i : ℕ) → Late (pointerPast d b left i)
+unfolding pointerPast
+late-pointerPast d b left i = late-bind _ _ (late-entry d b i) (λ e. late-bind _ _ (late-lookAt d b left (i + 1)) (λ u. late-pointer (e .value)))
+
+late-oneBelow : (level : ℕ) (b : List ℕ) → Late (oneBelow level b)
+unfolding oneBelow
+late-oneBelow level b = late-test _ _ _ refl (late-done _)
+
 module _ {S : Type 0} (visit : S → Entry → Reads S) (d : Description) (child : ℕ → Reads (List ℕ)) (v : (s : S) (e : Entry) → Late (visit s e)) (k : (n : ℕ) → Late (child n)) where
   late-leafFrom : (b : List ℕ) (left i : ℕ) (s : S) → Late (leafFrom visit d child b left i s)
   unfolding leafFrom
@@ -198,11 +206,9 @@ module _ {S : Type 0} (visit : S → Entry → Reads S) (d : Description) (child
     unfolding indexFrom
     late-indexFrom b zero i s = late-done _
     late-indexFrom b (suc left) i s =
-        late-bind _ _ (late-entry d b i) (λ e.
-        late-bind _ _ (late-lookAt d b left (i + 1)) (λ u.
-        late-bind _ _ (late-pointer (e .value)) (λ a.
+        late-bind _ _ (late-pointerPast d b left i) (λ a.
         late-bind _ _ (k a) (λ n.
-        late-bind _ _ (h n s) (λ s′. late-indexFrom b left (i + 1) s′)))))
+        late-bind _ _ (h n s) (λ s′. late-indexFrom b left (i + 1) s′)))
 
     late-scanNode : (b : List ℕ) (s : S) → Late (scanNode visit d child down b s)
     unfolding scanNode
@@ -211,7 +217,7 @@ module _ {S : Type 0} (visit : S → Entry → Reads S) (d : Description) (child
   late-below : (l : ℕ) (b : List ℕ) (s : S) → Late (below visit d child l b s)
   unfolding below
   late-below zero b s = late-refuse _ _ refl
-  late-below (suc l) b s = late-test _ _ _ refl (late-scanNode (below visit d child l) (late-below l) b s)
+  late-below (suc l) b s = late-bind _ _ (late-oneBelow _ b) (λ n. late-scanNode (below visit d child l) (late-below l) n s)
 
   late-scan : (b : List ℕ) (s : S) → Late (scan visit d child b s)
   unfolding scan
@@ -223,6 +229,10 @@ late-childrenFrom : (d : Description) (b : List ℕ) (left i : ℕ) (found : Lis
 unfolding childrenFrom
 late-childrenFrom d b zero i found = late-done _
 late-childrenFrom d b (suc left) i found = late-bind _ _ (late-entry d b i) (λ e. late-bind _ _ (late-pointer (e .value)) (λ a. late-childrenFrom d b left (i + 1) (a ∷ found)))
+
+late-nextNode : (c : Container) (left : ℕ) (a : Address) → Late (nextNode c left a)
+unfolding nextNode
+late-nextNode c left a = late-test _ _ _ refl (late-readNode c a)
 
 module _ {S : Type 0} (visit : S → Address → Reads S) (c : Container) (d : Description) (v : (s : S) (a : Address) → Late (visit s a)) where
   late-each : (down : ℕ → Walked S → Reads (Walked S)) → ((a : ℕ) (w : Walked S) → Late (down a w)) → (l : List ℕ) (w : Walked S) → Late (each visit c d down l w)
@@ -238,8 +248,8 @@ module _ {S : Type 0} (visit : S → Address → Reads S) (c : Container) (d : D
   unfolding walkBelow
   late-walkBelow zero a w = late-refuse _ _ refl
   late-walkBelow (suc levels) a w =
-      late-test _ _ _ refl (late-bind _ _ (late-readNode c _) (λ b.
-      late-bind _ _ (v _ _) (λ s. late-childrenOf _ (late-walkBelow levels) b _)))
+      late-bind _ _ (late-nextNode c _ _) (λ b.
+      late-bind _ _ (v _ _) (λ s. late-childrenOf _ (late-walkBelow levels) b _))
 
   late-walk : (a : Address) (s : S) → Late (walk visit c d a s)
   unfolding walk

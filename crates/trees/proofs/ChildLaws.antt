@@ -10,9 +10,9 @@ use Rattle.blocks.proofs.Laws.{then-given, then-refused, need-true, need-false,
 use Rattle.blocks.specs.declared.Refusal.{Refusal}
 use Rattle.blocks.specs.declared.Refusal.the-variants.{WrongLevel}
 use Rattle.nodes.specs.Node.{Entry, levelOf, entry, pointer}
-use Rattle.nodes.specs.Scan.{lookAt}
+use Rattle.nodes.specs.Scan.{lookAt, pointerPast, oneBelow}
 use Rattle.nodes.specs.declared.Description.{Description}
-use Rattle.trees.specs.contracts.Visits.{pointerPast, oneBelow, childBelow}
+use Rattle.trees.specs.contracts.Visits.{childBelow}
 use Rattle.trees.specs.contracts.Walks.{pointerOf, pointerAt}
 
 module _ (f : ℕ → List ℕ) (d : Description) (b : List ℕ) (i : ℕ) where

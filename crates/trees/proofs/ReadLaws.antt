@@ -6,25 +6,24 @@ use mathlib.Core.List.{List, [], _∷_}
 use Prim.Native.Nat.{ℕ, zero, suc, _+_, _≤_, _<_, pred}
 use native.Mathlib.Decide.{decLe}
 use native.Mathlib.Omega.{arith}
-use borrow.Author.Tests.{ltb-true}
 use Rattle.blocks.specs.Reads.{Reads, given, run, _>>=_}
 use Rattle.blocks.proofs.Laws.{then-given, need-held, both}
 use Rattle.blocks.specs.declared.Address.{Address}
 use Rattle.blocks.specs.declared.Container.{Container}
 use Rattle.blocks.specs.declared.ObjectId.{ObjectId}
-use Rattle.nodes.specs.Node.{isLeaf, keyCount, entry, readNode}
-use Rattle.nodes.specs.Scan.{lookAt}
-use Rattle.nodes.specs.Walk.{Walked, childrenFrom, each, childrenOf, walkBelow, mostLevels, walk}
+use Rattle.nodes.specs.Node.{isLeaf, keyCount, entry}
+use Rattle.nodes.specs.Scan.{lookAt, pointerPast, oneBelow}
+use Rattle.nodes.specs.Walk.{Walked, childrenFrom, nextNode, each, childrenOf, walkBelow, mostLevels, walk}
 use Rattle.nodes.specs.declared.Description.{Description}
 use Rattle.nodes.proofs.Laws.{node-given}
 use Rattle.checkpoint.specs.declared.Mapped.{Mapped}
-use Rattle.trees.specs.contracts.Visits.{childFor, treeChild, pointerPast, oneBelow, childBelow}
+use Rattle.trees.specs.contracts.Visits.{childFor, treeChild, childBelow}
 use Rattle.trees.specs.contracts.Walks.{pointerOf}
 use Rattle.trees.specs.contracts.Read.{NodeRead, ReadBelow, TreeRead, WalkedFor, ScanRead, ChildRead}
 use Rattle.trees.specs.declared.Purpose.{Purpose}
 use Rattle.trees.specs.declared.Purpose.the-variants.{PoolQueue, Mappings, MainQueue}
 use Rattle.trees.specs.declared.Tree.{Tree}
-use Rattle.trees.proofs.WalkLaws.{given-same, children-step, walk-visited}
+use Rattle.trees.proofs.WalkLaws.{given-same, children-step, node-turn, walk-visited}
 
 unfoldable All : (ℕ → Type 0) → List ℕ → Type 0
 All P [] = Unit {0}
@@ -71,11 +70,11 @@ module _ {S : Type 0} (f : ℕ → List ℕ) (visit : S → Address → Reads S)
   unfolding run walkBelow childrenOf ReadBelow
   below-read zero a w v e = let z : _≡_ {A = ℕ} 0 1 = cc in absurd (omega arith)
   below-read (suc levels) a w v e =
-      let turn = need-held f _ _ _ v e in
-      let node = both f (readNode c (record { 0 = a })) _ v (turn .1) in
+      let node = both f (nextNode c (w .left) (record { 0 = a })) _ v e in
+      let turn = node-turn f c _ _ (node .first) (node .came) in
       let visited = both f (visit (w .state) (record { 0 = a })) _ v (node .rest) in
-      let read : NodeRead f c a = node .came ∙ ap given (node-given f c (record { 0 = a }) (node .first) (node .came)) in
-      let children : run f (childrenOf visit c d (walkBelow visit c d levels) (f a) (record { left = pred (w .left); state = visited .first })) ≡ given v = sym (walk-visited f visit c d levels a w (ltb-true _ _ (turn .0)) (f a) read (visited .first) (visited .came)) ∙ e in
+      let read : NodeRead f c a = turn .1 ∙ ap given (node-given f c (record { 0 = a }) (node .first) (turn .1)) in
+      let children : run f (childrenOf visit c d (walkBelow visit c d levels) (f a) (record { left = pred (w .left); state = visited .first })) ≡ given v = sym (walk-visited f visit c d levels a w (turn .0) (f a) read (visited .first) (visited .came)) ∙ e in
       (read, λ index i x h q. children-all (λ y. NodeRead f c y × ReadBelow f c d levels (f y)) (walkBelow visit c d levels) (below-read levels) (f a) (record { left = pred (w .left); state = visited .first }) v (rw index at children) i x (omega arith) h q)
 
   -- a whole walk that came to its end

@@ -2,21 +2,18 @@
 use mathlib.Core.Path.{ap, _≡_, refl, sym, _∙_}
 use mathlib.Core.Bool.{Bool, true, false}
 use mathlib.Core.List.{List}
-use Prim.Native.Nat.{ℕ, zero, suc, _+_, _-_, _≤_, _<_, pred}
-use native.Mathlib.Numerals.{add-one}
+use Prim.Native.Nat.{ℕ, zero, suc, _+_, _-_, _<_, pred}
 use native.Mathlib.Omega.{arith}
-use lib.Dec.{eqb, eqb·suc-suc}
 use borrow.Author.Tests.{ne-eqb}
 use Rattle.fields.specs.Choice.{choose}
 use Rattle.blocks.specs.Reads.{Reads, done, refuse, read, Outcome, given, refused, run, _>>=_, need}
 use Rattle.blocks.proofs.Laws.{andThen, run-bind, then-given, then-refused}
 use Rattle.blocks.specs.declared.Refusal.{Refusal}
-use Rattle.blocks.specs.declared.Refusal.the-variants.{WrongLevel}
 use Rattle.blocks.proofs.Laws.{bind-assoc as assoc}
-use Rattle.nodes.specs.Node.{Entry, isLeaf, levelOf, keyCount, entry, pointer}
-use Rattle.nodes.specs.Scan.{leafFrom, lookAt, indexFrom, scanNode, below, scan}
+use Rattle.nodes.specs.Node.{Entry, isLeaf, levelOf, keyCount, entry}
+use Rattle.nodes.specs.Scan.{leafFrom, pointerPast, oneBelow, indexFrom, scanNode, below, scan}
 use Rattle.nodes.specs.declared.Description.{Description}
-use Rattle.trees.specs.contracts.Visits.{pointerPast, oneBelow, childBelow}
+use Rattle.trees.specs.contracts.Visits.{childBelow}
 
 -- sequences, whatever comes after
 
@@ -36,31 +33,20 @@ pred-less (suc n) = omega arith
 module _ {S : Type 0} (f : ℕ → List ℕ) (visit : S → Entry → Reads S) (d : Description) (child : ℕ → Reads (List ℕ)) where
   -- a child, and what follows it
   below-step : (level : ℕ) (n : List ℕ) (s : S) (rest : S → Reads S)
-      → run f (below visit d child level n s >>= rest) ≡ run f (need (eqb (levelOf n + 1) level) WrongLevel >>= (λ _. done n) >>= λ m. scanNode visit d child (below visit d child (pred level)) m s >>= rest)
-  unfolding run need _>>=_ below
+      → run f (below visit d child level n s >>= rest) ≡ run f (oneBelow level n >>= λ m. scanNode visit d child (below visit d child (pred level)) m s >>= rest)
+  unfolding run need _>>=_ below oneBelow
   below-step zero n s rest = rw (ne-eqb (levelOf n + 1) 0 (λ e. omega arith)) refl
-  below-step (suc level) n s rest = rw same (go (eqb (levelOf n) level))
-    where
-      same : eqb (levelOf n + 1) (suc level) ≡ eqb (levelOf n) level
-      same = rw add-one (eqb·suc-suc (levelOf n) level)
-
-      go : (t : Bool) → run f (need t WrongLevel >>= (λ _. scanNode visit d child (below visit d child level) n s) >>= rest) ≡ run f (need t WrongLevel >>= (λ _. done n) >>= λ m. scanNode visit d child (below visit d child level) m s >>= rest)
-      go true = refl
-      go false = refl
+  below-step (suc level) n s rest = bind-assoc f (oneBelow (suc level) n) _ rest
 
   index-step : (level left i : ℕ) (b : List ℕ) (s : S)
       → run f (indexFrom visit d child (below visit d child level) b (suc left) i s) ≡ run f (childBelow d child level b left i >>= λ n. scanNode visit d child (below visit d child (pred level)) n s >>= indexFrom visit d child (below visit d child level) b left (i + 1))
-  unfolding indexFrom childBelow pointerPast oneBelow
+  unfolding indexFrom childBelow
   index-step level left i b s =
-      sym (bind-assoc f (entry d b i) _ child-first ∙ bind-cong f (entry d b i) _ _ (λ e. bind-assoc f (lookAt d b left (i + 1)) _ child-first))
-      ∙ bind-cong f (pointerPast d b left i) _ _ (λ a. bind-cong f (child a) _ _ (λ n. below-step level n s rest) ∙ sym (bind-assoc f (child a) _ next))
+      bind-cong f (pointerPast d b left i) _ _ (λ a. bind-cong f (child a) _ _ (λ n. below-step level n s rest) ∙ sym (bind-assoc f (child a) _ next))
       ∙ sym (bind-assoc f (pointerPast d b left i) _ next)
     where
       rest : S → Reads S
       rest = indexFrom visit d child (below visit d child level) b left (i + 1)
-
-      child-first : ℕ → Reads S
-      child-first a = child a >>= λ n. below visit d child level n s >>= rest
 
       next : List ℕ → Reads S
       next n = scanNode visit d child (below visit d child (pred level)) n s >>= rest
@@ -153,7 +139,7 @@ module _ {S T : Type 0} (f : ℕ → List ℕ) (up : S → T) where
       unfolding run indexFrom Wider
       index-wider b zero i s = refl
       index-wider b (suc left) i s =
-          wider-after (entry d b i) _ _ λ e. wider-after (lookAt d b left (i + 1)) _ _ λ u. wider-after (pointer (e .value)) _ _ λ a. wider-after (child a) _ _ λ n. wider-then (down n) (downs n) _ _ (same n) (index-wider b left (i + 1)) s
+          wider-after (pointerPast d b left i) _ _ λ a. wider-after (child a) _ _ λ n. wider-then (down n) (downs n) _ _ (same n) (index-wider b left (i + 1)) s
 
       node-wider : (b : List ℕ) (s : S) → run f (scanNode visits d child downs b (up s)) ≡ raised up (run f (scanNode visit d child down b s))
       unfolding scanNode
@@ -168,7 +154,7 @@ module _ {S T : Type 0} (f : ℕ → List ℕ) (up : S → T) where
     below-wider : (level : ℕ) (b : List ℕ) (s : S) → run f (below visits d child level b (up s)) ≡ raised up (run f (below visit d child level b s))
     unfolding run below
     below-wider zero b s = refl
-    below-wider (suc level) b s = wider-after (need (eqb (levelOf b) level) WrongLevel) _ _ (λ u. node-wider _ _ (below-wider level) b s)
+    below-wider (suc level) b s = wider-after (oneBelow (suc level) b) _ _ (λ n. node-wider _ _ (below-wider level) n s)
 
     pub scan-wider : (b : List ℕ) (s : S) → run f (scan visits d child b (up s)) ≡ raised up (run f (scan visit d child b s))
     unfolding scan

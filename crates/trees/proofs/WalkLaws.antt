@@ -1,42 +1,42 @@
 -- Laws of physical walks.
 use mathlib.Core.Path.{_≡_, refl, sym, ap, _∙_}
 use mathlib.Core.Logic.{_≢_}
-use mathlib.Core.Bool.{Bool, true, false}
+use mathlib.Core.Bool.{true, false}
 use mathlib.Core.List.{List, [], _∷_}
 use Prim.Native.Nat.{ℕ, zero, suc, _+_, _-_, _^_, _<_, pred}
 use native.Mathlib.Numerals.{add-one}
 use native.Mathlib.Omega.{arith}
 use lib.Dec.{ltb}
 use borrow.Author.Tests.{lt-ltb, le-ltb, ltb-true}
-use Rattle.blocks.specs.Reads.{Reads, done, refuse, read, Outcome, given, refused, run, noBlocks, _>>=_, need}
+use Rattle.blocks.specs.Reads.{Reads, done, refuse, read, Outcome, given, refused, run, noBlocks, _>>=_}
 use Rattle.blocks.proofs.Laws.{then-given, then-refused, need-true, need-false, need-held, both, and-right, bind-assoc}
 use Rattle.blocks.specs.declared.Address.{Address}
 use Rattle.blocks.specs.declared.Container.{Container}
 use Rattle.blocks.specs.declared.Refusal.{Refusal}
 use Rattle.blocks.specs.declared.Refusal.the-variants.{TooManyNodes}
 use Rattle.nodes.specs.Node.{isLeaf, keyCount, entry, pointer, parse, readNode}
-use Rattle.nodes.specs.Walk.{Walked, childrenFrom, each, childrenOf, walkBelow, mostLevels, walk}
+use Rattle.nodes.specs.Walk.{Walked, childrenFrom, nextNode, each, childrenOf, walkBelow, mostLevels, walk}
 use Rattle.nodes.specs.declared.Description.{Description}
 use Rattle.nodes.proofs.Laws.{node-given}
-use Rattle.trees.specs.contracts.Walks.{pointerOf, pointerAt, pointersDown, nextNode, alongWay}
+use Rattle.trees.specs.contracts.Walks.{pointerOf, pointerAt, pointersDown, nextBelow, alongWay}
 use Rattle.trees.specs.contracts.Read.{NodeRead}
 use Rattle.blocks.specs.Blocks.{blockOf, readObject}
 use Rattle.block_map.specs.BlockMap.{Marked}
 use Rattle.block_map.specs.contracts.Maps.{Kept}
 use Rattle.block_map.proofs.Laws.{kept-then}
 use Rattle.report.specs.declared.OverlapLog.{OverlapLog}
-use Rattle.report.specs.contracts.Steps.{outcomeOf, onFrom, Within, Stepped}
+use Rattle.report.specs.contracts.Steps.{outcomeOf, Within, Stepped}
 use Rattle.report.specs.declared.Cursor.{Cursor}
 use Rattle.report.specs.declared.Ending.{Ending}
 use Rattle.report.specs.declared.Ending.the-variants.{Done, Refused}
-use Rattle.report.specs.declared.Step.{Step}
-use Rattle.report.specs.declared.Step.the-variants as step
 use Rattle.claims.specs.Claims.{claimNode}
 use Rattle.claims.specs.contracts.Answers.{owned, ClaimedAs}
 use Rattle.claims.specs.declared.Claimed.{Claimed}
 use Rattle.report.proofs.StepLaws.{stepped-done, stepped-refused}
-use Rattle.trees.specs.contracts.Answers.{walked, WayOf, Enters, Walks, NamedNext}
+use Rattle.trees.specs.contracts.Answers.{walked, WayOf, Enters, Walks, childFrom, NamedNext}
+use Rattle.trees.specs.declared.Child.{Child}
 use Rattle.trees.specs.declared.ChildStep.{ChildStep}
+use Rattle.trees.specs.declared.ChildStep.the-variants as step
 use Rattle.trees.specs.declared.Entered.{Entered}
 use Rattle.trees.specs.declared.Walked as code
 use Rattle.trees.specs.declared.Way.{Way}
@@ -82,36 +82,50 @@ ends-refused f (done a) b r e = let z : _≡_ {A = ℕ} 0 1 = cc in absurd (omeg
 ends-refused f (refuse s) b r e = refused-as s r e
 ends-refused f (read n k) b r e = ends-refused f (k (f n)) b r e
 
--- a node whose turn has come, and whether one more level and one more node may come
+-- a node whose turn has come, where one more may come
+module _ (f : ℕ → List ℕ) (c : Container) (left : ℕ) (a : Address) (more : 0 < left) where
+  node-unread : (r : Refusal) → run f (readNode c a) ≡ refused r → run f (nextNode c left a) ≡ refused r
+  unfolding nextNode
+  node-unread r e = need-true f _ _ _ (lt-ltb 0 left more) ∙ e
+
+  node-read : (b : List ℕ) → run f (readNode c a) ≡ given b → run f (nextNode c left a) ≡ given b
+  unfolding nextNode
+  node-read b e = need-true f _ _ _ (lt-ltb 0 left more) ∙ e
+
+pub node-turn : (f : ℕ → List ℕ) (c : Container) (left : ℕ) (a : Address) (b : List ℕ) → run f (nextNode c left a) ≡ given b → (0 < left) × (run f (readNode c a) ≡ given b)
+unfolding nextNode
+node-turn f c left a b e = let held = need-held f _ _ _ b e in (ltb-true _ _ (held .0), held .1)
+
+-- and whether one more level may come
 module _ (f : ℕ → List ℕ) (c : Container) (left a : ℕ) where
-  pub next-deep : (levels : ℕ) → levels ≡ 0 → run f (nextNode c levels left a) ≡ refused TooManyNodes
-  unfolding run nextNode
+  pub next-deep : (levels : ℕ) → levels ≡ 0 → run f (nextBelow c levels left a) ≡ refused TooManyNodes
+  unfolding run nextBelow
   next-deep levels e = rw e refl
 
-  pub next-many : (levels : ℕ) → levels ≢ 0 → left ≡ 0 → run f (nextNode c levels left a) ≡ refused TooManyNodes
-  unfolding nextNode
+  pub next-many : (levels : ℕ) → levels ≢ 0 → left ≡ 0 → run f (nextBelow c levels left a) ≡ refused TooManyNodes
+  unfolding nextBelow nextNode
   next-many zero deeper e = absurd (deeper refl)
-  next-many (suc levels) deeper e = need-false f _ _ _ (le-ltb 0 left (omega arith))
+  next-many (suc levels) deeper e = then-refused f _ _ _ (need-false f _ _ _ (le-ltb 0 left (omega arith)))
 
   module _ (more : left ≢ 0) where
-    pub next-unread : (levels : ℕ) → levels ≢ 0 → (r : Refusal) → run f (readNode c (record { 0 = a })) ≡ refused r → run f (nextNode c levels left a) ≡ refused r
-    unfolding nextNode
+    pub next-unread : (levels : ℕ) → levels ≢ 0 → (r : Refusal) → run f (readNode c (record { 0 = a })) ≡ refused r → run f (nextBelow c levels left a) ≡ refused r
+    unfolding nextBelow
     next-unread zero deeper r e = absurd (deeper refl)
-    next-unread (suc levels) deeper r e = need-true f _ _ _ (lt-ltb 0 left (omega arith)) ∙ then-refused f _ _ r e
+    next-unread (suc levels) deeper r e = then-refused f _ _ r (node-unread f c left _ (omega arith) r e)
 
-    pub next-read : (levels : ℕ) → levels ≢ 0 → (b : List ℕ) → run f (readNode c (record { 0 = a })) ≡ given b → run f (nextNode c levels left a) ≡ given (record { 0 = a })
-    unfolding run nextNode
+    pub next-read : (levels : ℕ) → levels ≢ 0 → (b : List ℕ) → run f (readNode c (record { 0 = a })) ≡ given b → run f (nextBelow c levels left a) ≡ given (record { 0 = a })
+    unfolding run nextBelow
     next-read zero deeper b e = absurd (deeper refl)
-    next-read (suc levels) deeper b e = need-true f _ _ _ (lt-ltb 0 left (omega arith)) ∙ then-given f _ _ b e
+    next-read (suc levels) deeper b e = then-given f _ _ b (node-read f c left _ (omega arith) b e)
 
-  next-given : (levels : ℕ) (x : Address) → run f (nextNode c levels left a) ≡ given x → (x ≡ record { 0 = a }) × (0 < levels) × (0 < left) × NodeRead f c a
-  unfolding run nextNode
+  next-given : (levels : ℕ) (x : Address) → run f (nextBelow c levels left a) ≡ given x → (x ≡ record { 0 = a }) × (0 < levels) × (0 < left) × NodeRead f c a
+  unfolding run nextBelow
   next-given zero x e = let z : _≡_ {A = ℕ} 0 1 = cc in absurd (omega arith)
   next-given (suc levels) x e =
-      let held = need-held f _ _ _ x e in
-      let node = both f (readNode c (record { 0 = a })) _ x (held .1) in
+      let node = both f (nextNode c left (record { 0 = a })) _ x e in
+      let turn = node-turn f c left _ (node .first) (node .came) in
       let is : x ≡ record { 0 = a } = given-same (given x) _ _ refl (sym (node .rest)) in
-      (is, omega arith, ltb-true _ _ (held .0), node .came ∙ ap given (node-given f c (record { 0 = a }) (node .first) (node .came)))
+      (is, omega arith, turn .0, turn .1 ∙ ap given (node-given f c (record { 0 = a }) (node .first) (turn .1)))
 
 -- a container that a node was read from has a block
 pub read-some : (f : ℕ → List ℕ) (c : Container) (a : ℕ) → NodeRead f c a → 0 < c .count
@@ -148,26 +162,19 @@ module _ {S : Type 0} (f : ℕ → List ℕ) (visit : S → Address → Reads S)
       each-more v e = each-step ∙ then-given f _ _ v e
 
   -- a node that is not read, and one that was
-  walk-unread : (levels a : ℕ) (w : Walked S) (r : Refusal) → run f (nextNode c levels (w .left) a) ≡ refused r → run f (walkBelow visit c d levels a w) ≡ refused r
-  unfolding run walkBelow nextNode need _>>=_
+  walk-unread : (levels a : ℕ) (w : Walked S) (r : Refusal) → run f (nextBelow c levels (w .left) a) ≡ refused r → run f (walkBelow visit c d levels a w) ≡ refused r
+  unfolding run walkBelow nextBelow
   walk-unread zero a w r e = refused-as TooManyNodes r e
-  walk-unread (suc levels) a w r e = go (ltb 0 (w .left)) _ e
-    where
-      node : Reads (List ℕ)
-      node = readNode c (record { 0 = a })
-
-      go : (t : Bool) (k : List ℕ → Reads (Walked S)) → run {A = Address} f (need t TooManyNodes >>= λ _. node >>= λ _. done (record { 0 = a })) ≡ refused r → run f (need t TooManyNodes >>= λ _. node >>= k) ≡ refused r
-      go true k q = then-refused f node k r (ends-refused f node _ r q)
-      go false k q = refused-as TooManyNodes r q
+  walk-unread (suc levels) a w r e = then-refused f (nextNode c (w .left) (record { 0 = a })) _ r (ends-refused f (nextNode c (w .left) (record { 0 = a })) _ r e)
 
   module _ (levels a : ℕ) (w : Walked S) (h : 0 < w .left) (b : List ℕ) (e : run f (readNode c (record { 0 = a })) ≡ given b) where
     walk-stops : (r : Refusal) → run f (visit (w .state) (record { 0 = a })) ≡ refused r → run f (walkBelow visit c d (suc levels) a w) ≡ refused r
     unfolding walkBelow
-    walk-stops r q = need-true f _ _ _ (lt-ltb _ _ h) ∙ then-given f _ _ b e ∙ then-refused f _ _ r q
+    walk-stops r q = then-given f _ _ b (node-read f c _ _ h b e) ∙ then-refused f _ _ r q
 
     pub walk-visited : (s : S) → run f (visit (w .state) (record { 0 = a })) ≡ given s → run f (walkBelow visit c d (suc levels) a w) ≡ run f (childrenOf visit c d (walkBelow visit c d levels) b (record { left = pred (w .left); state = s }))
     unfolding walkBelow
-    walk-visited s q = need-true f _ _ _ (lt-ltb _ _ h) ∙ then-given f _ _ b e ∙ then-given f _ _ s q
+    walk-visited s q = then-given f _ _ b (node-read f c _ _ h b e) ∙ then-given f _ _ s q
 
   -- which way a node's children go
   module _ (levels : ℕ) (b : List ℕ) (w : Walked S) where
@@ -261,42 +268,42 @@ module _ {image : List ℕ} {c : Container} {kind : ℕ} {d : Description} {leve
   pub left-done : at .left ≡ 0 → whole ≡ given (walked map left log)
   left-done e = sym (here .rest) ∙ each-done blocks (claimNode c kind) c d levels b (at .left) _ e
 
-  module _ (some : at .left ≢ 0) {r : ChildStep} (next : NamedNext blocks at r (nextNode c levels left last)) where
+  module _ (some : at .left ≢ 0) {r : ChildStep} (next : NamedNext blocks at r (nextBelow c levels left last)) where
     h : 0 < at .left
     h = omega arith
 
     stop : (x : Refusal) → run blocks (child last) ≡ refused x → whole ≡ refused x
     stop x e = sym (here .rest) ∙ each-refused blocks (claimNode c kind) c d levels b (at .left) _ h x e
 
-    pub left-unread : (x : Refusal) → r .step ≡ step.Refused x → whole ≡ refused x
-    left-unread x e = stop x (walk-unread blocks (claimNode c kind) c d levels last (walked map left log) x (sym (next .goes) ∙ ap (λ (s : Step). onFrom s (λ to. given (r .child))) e))
+    pub left-unread : (x : Refusal) → r ≡ step.Refused x → whole ≡ refused x
+    left-unread x e = stop x (walk-unread blocks (claimNode c kind) c d levels last (walked map left log) x (sym (next .goes) ∙ ap (λ (s : ChildStep). childFrom s (λ a. a)) e))
 
-    module _ (to : Cursor) (e : r .step ≡ step.On to) where
-      found : (r .child ≡ record { 0 = last }) × (0 < levels) × (0 < left) × NodeRead blocks c last
-      found = next-given blocks c left last levels (r .child) (sym (next .goes) ∙ ap (λ (s : Step). onFrom s (λ to. given (r .child))) e)
+    module _ (x : Child) (e : r ≡ step.On x) where
+      found : (x .address ≡ record { 0 = last }) × (0 < levels) × (0 < left) × NodeRead blocks c last
+      found = next-given blocks c left last levels (x .address) (sym (next .goes) ∙ ap (λ (s : ChildStep). childFrom s (λ a. a)) e)
 
-      same : r .child .0 ≡ last
+      same : x .address .0 ≡ last
       same = ap (λ (a : Address). a .0) (found .0)
 
-      pub left-child : (0 < levels) × (0 < left) × NodeRead blocks c (r .child .0)
+      pub left-child : (0 < levels) × (0 < left) × NodeRead blocks c (x .address .0)
       left-child = (found .1, found .2, rw same (found .3))
 
-      pub left-less : to .left < at .left
-      left-less = let l : to .left ≡ at .left - 1 = ap (λ (x : Cursor). x .left) (next .past to e) in omega arith
+      pub left-less : x .rest .left < at .left
+      left-less = let l : x .rest .left ≡ at .left - 1 = ap (λ (k : Cursor). k .left) (next .past x e) in omega arith
 
-      module _ {w : code.Walked} {after : List ℕ} (one : Walks image c w map after (child (r .child .0))) where
+      module _ {w : code.Walked} {after : List ℕ} (one : Walks image c w map after (child (x .address .0))) where
         pub left-kept : Kept (c .count) before after
         left-kept = kept-then _ before map after (here .kept) (one .kept)
 
         ended : run blocks (child last) ≡ outcomeOf (w .ending) (walked after (w .left) (w .log))
         ended = rw (← same) (sym (one .goes))
 
-        pub left-refused : (x : Refusal) → w .ending ≡ Refused x → whole ≡ refused x
-        left-refused x q = stop x (ended ∙ rw q refl)
+        pub left-refused : (y : Refusal) → w .ending ≡ Refused y → whole ≡ refused y
+        left-refused y q = stop y (ended ∙ rw q refl)
 
-        pub left-more : w .ending ≡ Done → Left image c kind d levels b before whole after (w .left) (w .log) to
+        pub left-more : w .ending ≡ Done → Left image c kind d levels b before whole after (w .left) (w .log) (x .rest)
         left-more q =
-            let is : to ≡ record { next = at .next + 1; left = at .left - 1 } = next .past to e in
+            let is : x .rest ≡ record { next = at .next + 1; left = at .left - 1 } = next .past x e in
             let fits : (at .next + 1) + (at .left - 1) < 2 ^ 64 = omega (arith, here .inside) in
             rw is (record { kept = left-kept; inside = fits; rest = sym (each-more blocks (claimNode c kind) c d levels b (at .left) _ h (walked after (w .left) (w .log)) (ended ∙ rw q refl)) ∙ here .rest })
 

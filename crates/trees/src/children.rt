@@ -1,4 +1,5 @@
 // The children of a node: their pointers, and the nodes that these name.
+use crate::Child;
 use crate::ChildStep;
 use crate::Purpose;
 use crate::Tree;
@@ -13,16 +14,13 @@ use checkpoint::Checkpoint;
 use nodes::Description;
 use nodes::EntryAnswer;
 use report::Cursor;
-use report::Ending;
-use report::Step;
-use report::steps;
 ghost use mathlib.Core.Path.{_≡_};
 ghost use Prim.Native.Nat.{_-_, _<_};
 ghost use Rattle.blocks.specs.contracts.Images.{bytes, blocksIn};
 ghost use Rattle.blocks.specs.contracts.Answers.{thereAs, numberAs, Always, Finds};
-ghost use Rattle.nodes.specs.Scan.{lookAt};
+ghost use Rattle.nodes.specs.Scan.{lookAt, pointerPast, oneBelow};
 ghost use Rattle.report.specs.contracts.Steps.{Ahead};
-ghost use Rattle.trees.specs.contracts.Visits.{childOn, pointerPast, oneBelow, childOf};
+ghost use Rattle.trees.specs.contracts.Visits.{childOn, childOf};
 ghost use Rattle.trees.specs.contracts.Walks.{pointerOf as pointerIn, pointerAt};
 ghost use Rattle.trees.specs.contracts.Read.{NodeRead, WalkedFor, ChildRead};
 ghost use Rattle.trees.specs.contracts.Answers.{FindsPointers, FindsNext, childPast};
@@ -162,19 +160,16 @@ pub(crate) fn next_child(image: &[u8], tree: Tree, node: &[u8], level: u64, at: 
 
 // Past the child at a cursor, once it was found.
 pub(crate) fn past(found: AddressAnswer, at: Cursor) -> ChildStep
+    requires { ⌜ Ahead at ⌝ }
     ensures { λ r. ⌜ r ≡ childPast found at ⌝ }
 {
     match found {
-        AddressAnswer::Refused(r) => {
-            let step = Step::Refused(r);
-            ChildStep {
-                step,
-                child: Address(0),
-            }
-        }
-        AddressAnswer::Given(child) => {
-            let step = steps::past(Ending::Done, at);
-            ChildStep { step, child }
+        AddressAnswer::Refused(r) => ChildStep::Refused(r),
+        AddressAnswer::Given(address) => {
+            let next = at.next + 1;
+            let left = at.left - 1;
+            let rest = Cursor { next, left };
+            ChildStep::On(Child { address, rest })
         }
     }
 }

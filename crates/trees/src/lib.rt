@@ -5,6 +5,7 @@ use blocks::Refusal;
 use checkpoint::Checkpoint;
 use nodes::Description;
 use pool::PoolPlace;
+use report::Cursor;
 use report::Ending;
 use report::OverlapLog;
 use report::Step;
@@ -15,14 +16,14 @@ mod scans;
 pub mod walks;
 
 // What the entries of a scanned tree are for.
-pub enum Purpose {
+pub(crate) enum Purpose {
     PoolQueue,
     Mappings,
     MainQueue,
 }
 
 // A tree to scan.
-pub struct Tree {
+pub(crate) struct Tree {
     pub checkpoint: Checkpoint,
     pub pool: PoolPlace,
     pub purpose: Purpose,
@@ -30,44 +31,50 @@ pub struct Tree {
 }
 
 // What a pass has counted: the audit's figures and the claims'.
-pub struct Figures {
+pub(crate) struct Figures {
     pub audit: Audit,
     pub overlaps: OverlapLog,
 }
 
 // The figures after a step that also changed the block map; where it was refused, they say nothing.
-pub struct Visited {
+pub(crate) struct Visited {
     pub ending: Ending,
     pub figures: Figures,
 }
 
 // The figures after a step along the entries of a leaf, and where it came to.
-pub struct VisitStep {
+pub(crate) struct VisitStep {
     pub step: Step,
     pub figures: Figures,
 }
 
-// Where a step along the children of a node came to, and the child that it found.
-pub struct ChildStep {
-    pub step: Step,
-    pub child: Address,
+// A child of a node, and the cursor past it.
+pub(crate) struct Child {
+    pub address: Address,
+    pub rest: Cursor,
+}
+
+// A step along the children of a node.
+pub(crate) enum ChildStep {
+    On(Child),
+    Refused(Refusal),
 }
 
 // How a walk goes on at a node that was visited.
-pub enum Way {
+pub(crate) enum Way {
     Leaf,
     Index,
     Refused(Refusal),
 }
 
 // The claims' log after a node was visited.
-pub struct Entered {
+pub(crate) struct Entered {
     pub way: Way,
     pub log: OverlapLog,
 }
 
 // How a walk of the nodes below one ended, how many nodes may still come, and the claims' log.
-pub struct Walked {
+pub(crate) struct Walked {
     pub ending: Ending,
     pub left: u64,
     pub log: OverlapLog,

@@ -1,4 +1,5 @@
 // A scan visits a tree's entries from first to last.
+use crate::ChildStep;
 use crate::Figures;
 use crate::Purpose;
 use crate::Tree;
@@ -211,18 +212,17 @@ fn scan_node(
     let mut at = Cursor { next: 0, left: n };
     while at.left != 0 {
         let moved = next_child(image, tree, node, level, at);
-        let step = moved.step;
-        match step {
-            Step::Refused(r) => return refused(r, found),
-            Step::On(to) => {
-                let child = moved.child;
-                let visited = scan_node(image, map, tree, child, level - 1, found);
+        match moved {
+            ChildStep::Refused(r) => return refused(r, found),
+            ChildStep::On(child) => {
+                let below = child.address;
+                let visited = scan_node(image, map, tree, below, level - 1, found);
                 let ending = visited.ending;
                 match ending {
                     Ending::Refused(_) => return visited,
                     Ending::Done => {
                         found = visited.figures;
-                        at = to;
+                        at = child.rest;
                     }
                 }
             }

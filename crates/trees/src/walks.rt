@@ -16,7 +16,6 @@ use nodes::Description;
 use report::Cursor;
 use report::Ending;
 use report::OverlapLog;
-use report::Step;
 ghost use mathlib.Core.Path.{_≡_};
 ghost use Prim.Native.Nat.{_-_, _%_, _<_};
 ghost use Rattle.blocks.specs.Reads.{run};
@@ -25,7 +24,7 @@ ghost use Rattle.blocks.specs.contracts.Answers.{addressAs};
 ghost use Rattle.nodes.specs.Walk.{walkBelow, walk as walkOf};
 ghost use Rattle.report.specs.contracts.Steps.{Ahead};
 ghost use Rattle.claims.specs.Claims.{claimNode};
-ghost use Rattle.trees.specs.contracts.Walks.{nextNode, pointerAt};
+ghost use Rattle.trees.specs.contracts.Walks.{nextBelow, pointerAt};
 ghost use Rattle.trees.specs.contracts.Read.{NodeRead};
 ghost use Rattle.trees.specs.contracts.Answers.{WayOf, Enters, WalksFrom, ClaimsAs, NamesNext};
 
@@ -87,7 +86,7 @@ fn read_next(
     levels: u64,
     left: u64,
 ) -> AddressAnswer
-    ensures { λ r. ⌜ addressAs r ≡ run (blocksIn (image .entry) container) (nextNode container levels left (address .0)) ⌝ }
+    ensures { λ r. ⌜ addressAs r ≡ run (blocksIn (image .entry) container) (nextBelow container levels left (address .0)) ⌝ }
 {
     if levels == 0 {
         return AddressAnswer::Refused(Refusal::TooManyNodes);
@@ -113,7 +112,7 @@ fn next_below(
     at: Cursor,
 ) -> ChildStep
     requires { ⌜ Ahead at ⌝ }
-    ensures { λ r. ⌜ NamesNext image container at r (nextNode container levels left (pointerAt description (bytes node) (at .left - 1))) ⌝ }
+    ensures { λ r. ⌜ NamesNext image container at r (nextBelow container levels left (pointerAt description (bytes node) (at .left - 1))) ⌝ }
 {
     let pointer = pointer_at(node, description, at.left - 1);
     let found = read_next(image, container, Address(pointer), levels, left);
@@ -165,18 +164,17 @@ fn walk_below(
             };
             while at.left != 0 {
                 let moved = next_below(image, container, description, node, below, left, at);
-                let step = moved.step;
-                match step {
-                    Step::Refused(r) => return stopped(r, left, found),
-                    Step::On(to) => {
-                        let child = moved.child;
+                match moved {
+                    ChildStep::Refused(r) => return stopped(r, left, found),
+                    ChildStep::On(child) => {
+                        let next = child.address;
                         let w = walk_below(
                             image,
                             map,
                             container,
                             kind,
                             description,
-                            child,
+                            next,
                             below,
                             left,
                             found,
@@ -187,7 +185,7 @@ fn walk_below(
                             Ending::Done => {
                                 left = w.left;
                                 found = w.log;
-                                at = to;
+                                at = child.rest;
                             }
                         }
                     }

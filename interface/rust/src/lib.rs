@@ -1,7 +1,7 @@
 //! Safe calls of the proved space check of an APFS container.
 //!
 //! [`check`] lends an image and a block map to the one function of `interface/space_check.h`, whose answer and map are
-//! proved for every image and every map. What it leaves comes back as a [`Report`], or as one of 22 [`Refusal`]s.
+//! proved for every image and every map. What it leaves comes back as a [`Report`] or as a [`Refusal`].
 //!
 //! ```
 //! # let image = include_bytes!("../../../crates/listing/stdin");
@@ -14,7 +14,8 @@
 //!
 //! The archive is looked for where `rt staticlib interface` writes it, in target/staticlib of the repository; another
 //! folder is named by the environment variable `SPACE_CHECK_DIR` when this crate is built. A relative path counts from
-//! the repository's root.
+//! the repository's root. Without the feature `archive`, which is on by default, nothing is linked: kinds, problems and
+//! refusals still have their names and the answer's numbers their [places], and nothing can be checked.
 //!
 //! An image may be a file that is mapped. Then nothing may change the file during the call, and a read that the disk
 //! refuses ends the process by a signal (`SIGBUS`): the command `apfs-space-check` runs each check in a process of its own
@@ -25,18 +26,18 @@
 mod listing;
 mod map;
 mod names;
+pub mod places;
+#[cfg(feature = "archive")]
+mod proved;
 mod report;
 
 pub use listing::Listing;
 pub use map::Cell;
 pub use names::{Kind, ProblemKind, Refusal, Verdict};
+pub use places::{FIGURES, LOGGED};
+#[cfg(feature = "archive")]
+pub use proved::{check, figures, figures_into};
 pub use report::{Log, Lost, Overlap, Problem, Report};
-
-/// An answer is so many numbers.
-pub const FIGURES: usize = 79;
-
-/// So many problems, and so many overlaps, are named in a report.
-pub const LOGGED: usize = 10;
 
 // Where block 0 states the block size, in 4 bytes, and the block count, in 8.
 const BLOCK_SIZE: usize = 36;
@@ -44,17 +45,6 @@ const BLOCK_COUNT: usize = 40;
 
 /// No container has smaller blocks.
 const LEAST_BLOCK: usize = 4096;
-
-extern "C" {
-    fn space_check(
-        image: *const u8,
-        image_length: usize,
-        map: *mut u8,
-        map_length: usize,
-        figures: *mut u64,
-        figures_length: usize,
-    );
-}
 
 /// The block size that block 0 states, or 0 where it has none: where there is a report, a power of two from 4,096 to
 /// 65,536.
@@ -71,27 +61,4 @@ pub fn blocks(image: &[u8]) -> usize {
     let stated = image.get(BLOCK_COUNT..BLOCK_COUNT + 8);
     let count = stated.map_or(0, |bytes| u64::from_le_bytes(bytes.try_into().expect("8 bytes")));
     usize::try_from(count).unwrap_or(usize::MAX).min(image.len() / LEAST_BLOCK)
-}
-
-/// The report on an image, and the block map left in `map`: a [`Cell`] for each block.
-///
-/// After refusals 1 to 11 the map is as it was, after 12 to 22 it is 0 for each block. Bytes past the block count are
-/// never changed.
-///
-/// ```
-/// use space_check::{check, Refusal};
-/// assert_eq!(check(&[], &mut []), Err(Refusal::ShortImage));
-/// ```
-pub fn check(image: &[u8], map: &mut [u8]) -> Result<Report, Refusal> {
-    report::answer(&figures(image, map))
-}
-
-/// The answer's numbers, at the places that `interface/space_check.h` names, and the block map left in `map`.
-pub fn figures(image: &[u8], map: &mut [u8]) -> [u64; FIGURES] {
-    let mut figures = [0; FIGURES];
-    // SAFETY: each buffer is lent whole for the call, and the borrows keep the three apart.
-    unsafe {
-        space_check(image.as_ptr(), image.len(), map.as_mut_ptr(), map.len(), figures.as_mut_ptr(), FIGURES);
-    }
-    figures
 }

@@ -8,8 +8,15 @@ use crate::report::{Lost, Problem, Report};
 /// A report's lines, each with its newline, by `Display`.
 #[derive(Clone, Copy, Debug)]
 pub struct Listing<'a> {
-    pub(crate) report: &'a Report,
-    pub(crate) name: &'a str,
+    report: &'a Report,
+    name: &'a str,
+}
+
+impl Report {
+    /// The lines of the listing, in the words of the original; `name` stands where it prints the disk's place.
+    pub fn listing<'a>(&'a self, name: &'a str) -> Listing<'a> {
+        Listing { report: self, name }
+    }
 }
 
 impl fmt::Display for Listing<'_> {

@@ -2,10 +2,6 @@
 
 use crate::names::Kind;
 
-const OWNER: u8 = 0x0f;
-const MARKED: u8 = 0x10;
-const POOL_USED: u8 = 0x20;
-
 /// A byte of the block map: who owns the block, and what the bitmaps say of it.
 ///
 /// ```
@@ -18,28 +14,35 @@ const POOL_USED: u8 = 0x20;
 pub struct Cell(pub u8);
 
 impl Cell {
+    /// The bits that hold the owner's number, 0 for none.
+    pub const OWNER: u8 = 0x0f;
+    /// The bit of a block that a bitmap has as in use.
+    pub const MARKED: u8 = 0x10;
+    /// The bit of a block that the internal pool needs.
+    pub const POOL_USED: u8 = 0x20;
+
     /// The first that claimed it.
     pub fn owner(self) -> Option<Kind> {
-        Kind::from_number((self.0 & OWNER).into())
+        Kind::from_number((self.0 & Cell::OWNER).into())
     }
 
     /// A bitmap has it as in use.
     pub fn is_marked(self) -> bool {
-        self.0 & MARKED != 0
+        self.0 & Cell::MARKED != 0
     }
 
     /// The internal pool needs it.
     pub fn is_pool_used(self) -> bool {
-        self.0 & POOL_USED != 0
+        self.0 & Cell::POOL_USED != 0
     }
 
     /// In use, and marked as free: the next writer may overwrite it.
     pub fn is_lost(self) -> bool {
-        self.0 & OWNER != 0 && !self.is_marked()
+        self.0 & Cell::OWNER != 0 && !self.is_marked()
     }
 
     /// Marked as in use, and claimed by nothing that the check looks at.
     pub fn is_leaked(self) -> bool {
-        self.0 & OWNER == 0 && self.is_marked()
+        self.0 & Cell::OWNER == 0 && self.is_marked()
     }
 }

@@ -1,25 +1,7 @@
 //! What the check found, from the answer's numbers.
 
-use crate::listing::Listing;
 use crate::names::{Kind, ProblemKind, Refusal, Verdict};
-use crate::{FIGURES, LOGGED};
-
-// Where the parts of an answer begin (interface/space_check.h).
-const REFUSAL: usize = 0;
-const XID: usize = 1;
-const POOL_USED: usize = 2;
-const POOL_UNUSED: usize = 3;
-const PROBLEMS: usize = 4;
-const PROBLEM: usize = 5;
-const FREE: usize = 25;
-const WRONG_CHUNKS: usize = 26;
-const DEVICE_FREE: usize = 27;
-const OVERLAPS: usize = 28;
-const OVERLAP: usize = 29;
-const LOST: usize = 59;
-const FIRST_LOST: usize = 68;
-const LEAKED: usize = 77;
-const VERDICT: usize = 78;
+use crate::places::{self, FIGURES, LOGGED, OVERLAP_NUMBERS, PROBLEM_NUMBERS};
 
 /// Findings of one sort.
 #[derive(Clone, Debug, PartialEq, Eq)]
@@ -94,43 +76,51 @@ impl Report {
         self.lost.iter().map(|lost| lost.count).sum()
     }
 
-    /// The lines of the listing, in the words of the original; `name` stands where it prints the disk's place.
-    pub fn listing<'a>(&'a self, name: &'a str) -> Listing<'a> {
-        Listing { report: self, name }
+    /// The report that an answer's numbers stand for, or its refusal.
+    ///
+    /// # Panics
+    ///
+    /// Where a number names no kind, problem, refusal or verdict, as no answer of the check does.
+    pub fn of_figures(n: &[u64; FIGURES]) -> Result<Report, Refusal> {
+        if n[places::REFUSAL] != 0 {
+            return Err(Refusal::from_number(n[places::REFUSAL]).expect("a refusal that has a name"));
+        }
+        let (problems, overlaps) = (&n[places::PROBLEM..places::FREE], &n[places::OVERLAP..places::LOST]);
+        Ok(Report {
+            xid: n[places::XID],
+            pool_used: n[places::POOL_USED],
+            pool_unused: n[places::POOL_UNUSED],
+            problems: log(n[places::PROBLEMS], problems.chunks_exact(PROBLEM_NUMBERS).map(problem)),
+            free: n[places::FREE],
+            wrong_chunks: n[places::WRONG_CHUNKS],
+            device_free: n[places::DEVICE_FREE],
+            overlaps: log(n[places::OVERLAPS], overlaps.chunks_exact(OVERLAP_NUMBERS).map(overlap)),
+            lost: Kind::ALL.iter().map(|&kind| lost(n, kind)).collect(),
+            leaked: n[places::LEAKED],
+            verdict: Verdict::from_number(n[places::VERDICT]).expect("a verdict that has a name"),
+        })
     }
 }
 
-/// The proved function gives no other kinds than those that have a name.
-const NAMED: &str = "a kind that the report has";
-
-pub(crate) fn answer(n: &[u64; FIGURES]) -> Result<Report, Refusal> {
-    if n[REFUSAL] != 0 {
-        return Err(Refusal::from_number(n[REFUSAL]).expect("a refusal from 1 to 22"));
-    }
-    let kind = |number| Kind::from_number(number).expect(NAMED);
-    let problem = |at: &[u64]| Problem { kind: ProblemKind::from_number(at[0]).expect(NAMED), block: at[1] };
-    let overlap = |at: &[u64]| Overlap { block: at[0], owner: kind(at[1]), claimant: kind(at[2]) };
-    let lost = |(i, &kind): (usize, &Kind)| {
-        let count = n[LOST + i];
-        Lost { kind, count, first: (count != 0).then_some(n[FIRST_LOST + i]) }
-    };
-    Ok(Report {
-        xid: n[XID],
-        pool_used: n[POOL_USED],
-        pool_unused: n[POOL_UNUSED],
-        problems: log(n[PROBLEMS], &n[PROBLEM..FREE], 2, problem),
-        free: n[FREE],
-        wrong_chunks: n[WRONG_CHUNKS],
-        device_free: n[DEVICE_FREE],
-        overlaps: log(n[OVERLAPS], &n[OVERLAP..LOST], 3, overlap),
-        lost: Kind::ALL.iter().enumerate().map(lost).collect(),
-        leaked: n[LEAKED],
-        verdict: Verdict::from_number(n[VERDICT]).expect("a verdict"),
-    })
-}
-
-/// A log, of which as many entries are filled as were met, ten at most; each has so many numbers.
-fn log<T>(total: u64, numbers: &[u64], each: usize, entry: impl Fn(&[u64]) -> T) -> Log<T> {
+/// A log, of which as many entries are filled as were met, ten at most; the others are not looked at.
+fn log<T>(total: u64, entries: impl Iterator<Item = T>) -> Log<T> {
     let filled = usize::try_from(total).unwrap_or(LOGGED).min(LOGGED);
-    Log { total, first: numbers.chunks(each).take(filled).map(entry).collect() }
+    Log { total, first: entries.take(filled).collect() }
+}
+
+fn problem(n: &[u64]) -> Problem {
+    Problem { kind: ProblemKind::from_number(n[0]).expect("a problem that has a name"), block: n[1] }
+}
+
+fn overlap(n: &[u64]) -> Overlap {
+    Overlap { block: n[0], owner: kind(n[1]), claimant: kind(n[2]) }
+}
+
+fn kind(number: u64) -> Kind {
+    Kind::from_number(number).expect("a kind that has a name")
+}
+
+fn lost(n: &[u64; FIGURES], kind: Kind) -> Lost {
+    let count = n[places::lost(kind)];
+    Lost { kind, count, first: (count != 0).then(|| n[places::first_lost(kind)]) }
 }

@@ -1,5 +1,5 @@
 // The 16-block container of document 01's listing, which is also the listing program's input.
-use space_check::{block_size, blocks, check, Cell, Kind, Lost, Refusal, Verdict};
+use space_check::{block_size, blocks, check, figures, figures_into, Cell, Kind, Lost, Refusal, Verdict, FIGURES};
 
 const CONTAINER: &[u8] = include_bytes!("../../../crates/listing/stdin");
 const BLOCKS: usize = 16;
@@ -33,6 +33,19 @@ fn a_lost_and_a_leaked_block() {
     let listing = report.listing("disk").to_string();
     assert!(listing.contains("in use but marked free: 1 blocks\n  object map node: 1 (first at 0x9)\n"), "{listing}");
     assert!(listing.ends_with("result     inconsistent\n"), "{listing}");
+}
+
+#[test]
+fn arrays_of_other_lengths() {
+    let mut map = vec![0; BLOCKS];
+    let whole = figures(CONTAINER, &mut map);
+    for length in [0, 1, 28, FIGURES - 1, FIGURES, FIGURES + 4] {
+        let (mut array, mut map_again) = (vec![u64::MAX; length], vec![0xff; BLOCKS]);
+        figures_into(CONTAINER, &mut map_again, &mut array);
+        let kept = vec![u64::MAX; length.saturating_sub(FIGURES)];
+        assert_eq!(array, [&whole[..length.min(FIGURES)], &kept].concat(), "{length} numbers");
+        assert_eq!(map_again, map, "{length} numbers");
+    }
 }
 
 #[test]

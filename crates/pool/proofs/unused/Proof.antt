@@ -17,17 +17,17 @@ abbrev μ-loop : tie.MeasureT-loop
 loop-holds : tie.Need-loop-holds Inv-loop μ-loop
 loop-holds c = (search needs, search needs, refl)
 
-byte-end-requires : tie.Need-byte-end-requires Inv-loop μ-loop
-byte-end-requires c κs = search needs
+piece-end-requires : tie.Need-piece-end-requires Inv-loop μ-loop
+piece-end-requires c κs = search needs
 
-unused-byte-requires : tie.Need-unused-byte-requires Inv-loop μ-loop
-unused-byte-requires c κs = search needs
+unused-piece-requires : tie.Need-unused-piece-requires Inv-loop μ-loop
+unused-piece-requires c κs = search needs
 
 loop-less : tie.Need-loop-less Inv-loop μ-loop
 loop-less c = search needs
 
 loop-again : tie.Need-loop-again Inv-loop μ-loop
-loop-again c = (search needs, counted-few _ _ _ _ _ _ _ _ (c .before .before .before .before .loop .inv .2) _ (search needs) (search needs) _ (c .unused-byte .ensures), counted-span _ _ _ _ _ _ _ _ (c .before .before .before .before .loop .inv .2) _ (search needs) (search needs) _ (c .unused-byte .ensures))
+loop-again c = (search needs, counted-few _ _ _ _ _ _ _ _ (c .before .before .before .before .loop .inv .2) _ (search needs) (search needs) _ (c .unused-piece .ensures), counted-span _ _ _ _ _ _ _ _ (c .before .before .before .before .loop .inv .2) _ (search needs) (search needs) _ (c .unused-piece .ensures))
 
 returns : tie.Need-returns Inv-loop μ-loop
 returns c = counted-done _ _ _ _ _ _ _ _ (c .before .before .loop .inv .2) (c .if1 .left) ∙ rw (sub-zero, add-zero) refl
@@ -39,8 +39,8 @@ unused-spec =
     Inv-loop
     μ-loop
     loop-holds
-    byte-end-requires
-    unused-byte-requires
+    piece-end-requires
+    unused-piece-requires
     loop-less
     loop-again
     returns)

@@ -9,16 +9,16 @@ use Rattle.pool.proofs.unused_byte.Statement.{statement}
 use Rattle.pool.proofs.unused_byte.Tie as tie
 
 abbrev Inv-loop : tie.InvT-loop
-Inv-loop image map container p first end n b found₀ i₀ found i = (first ≤ i) × (i ≤ end) × (found ≤ i) × Counted container (poolIn (blockOf image (container .size)) (container .size) p) map first end n i found
+Inv-loop image map container p part near first end n b found₀ i₀ found i = (first ≤ i) × (i ≤ end) × (found ≤ i) × Counted container (poolIn (blockOf image (container .size)) (container .size) p) map first end n i found
 
 abbrev μ-loop : tie.MeasureT-loop
-μ-loop image map container p first end n b found₀ i₀ found i = end - i
+μ-loop image map container p part near first end n b found₀ i₀ found i = end - i
 
-bitmap-byte-requires : tie.Need-bitmap-byte-requires Inv-loop μ-loop
-bitmap-byte-requires c κs = search needs
+byte-near-requires : tie.Need-byte-near-requires Inv-loop μ-loop
+byte-near-requires c κs = search needs
 
 returns : tie.Need-returns Inv-loop μ-loop
-returns c = sym (count-none _ _ _ _ (sym (c .before .bitmap-byte .ensures) ∙ c .if1 .taken) _ _ _ (omega arith) (omega arith) (omega arith) (search needs))
+returns c = sym (count-none _ _ _ _ (sym (c .before .byte-near .ensures) ∙ c .if1 .taken) _ _ _ (omega arith) (omega arith) (omega arith) (search needs))
 
 loop-holds : tie.Need-loop-holds Inv-loop μ-loop
 loop-holds c = (search needs, search needs, search needs, refl)
@@ -39,7 +39,7 @@ loop-less : tie.Need-loop-less Inv-loop μ-loop
 loop-less c = search needs
 
 loop-again : tie.Need-loop-again Inv-loop μ-loop
-loop-again c = (search needs, search needs, search needs, counted-more _ _ _ _ _ _ _ _ (c .before .before .before .loop .inv .3) (c .before .before .loop-test .taken) (search needs) (search needs) _ (bit-read-of _ _ _ _ _ _ (c .before .before .before .before .before .bitmap-byte .ensures) (omega arith) refl (c .before .bit-of .ensures)) _ (c .unused-one .ensures .0))
+loop-again c = (search needs, search needs, search needs, counted-more _ _ _ _ _ _ _ _ (c .before .before .before .loop .inv .3) (c .before .before .loop-test .taken) (search needs) (search needs) _ (bit-read-of _ _ _ _ _ _ (c .before .before .before .before .before .byte-near .ensures) (omega arith) refl (c .before .bit-of .ensures)) _ (c .unused-one .ensures .0))
 
 returns-2 : tie.Need-returns-2 Inv-loop μ-loop
 returns-2 c = counted-done _ _ _ _ _ _ _ _ (c .before .loop .inv .3) (c .loop-test .left)
@@ -50,7 +50,7 @@ unused-byte-spec =
     (tie.spec
     Inv-loop
     μ-loop
-    bitmap-byte-requires
+    byte-near-requires
     returns
     loop-holds
     bit-of-requires

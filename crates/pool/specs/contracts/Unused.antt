@@ -14,9 +14,16 @@ unusedOne c map marked a = pick (marked && not (usedAt c map a)) 1 0
 abbrev pub byteEnd : ℕ → ℕ → ℕ
 byteEnd i blocks = min (i / 8 * 8 + 8) blocks
 
--- blocks from first to end, of so many, whose bits are in one byte; no more were counted before them than there are
-pub record OneByte (first end counted blocks : ℕ) : Type 0 where
+-- the end of a piece of as many blocks from i on as a bitmap's block of the smallest size has bits, of so many
+abbrev pub pieceEnd : ℕ → ℕ → ℕ
+pieceEnd i blocks = min (i + 32768) blocks
+
+-- places from first to end, of so many; no more were counted before them than there are
+pub record Places (first end counted blocks : ℕ) : Type 0 where
   pub some : first ≤ end
-  pub near : end ≤ first / 8 * 8 + 8
   pub inside : end ≤ blocks
   pub few : counted ≤ first
+
+-- places whose bits are in one byte
+abbrev pub OneByte : ℕ → ℕ → Type 0
+OneByte first end = end ≤ first / 8 * 8 + 8

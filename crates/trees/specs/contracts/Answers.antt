@@ -4,13 +4,13 @@ use mathlib.Core.List.{List, []}
 use mathlib.Core.Path.{_≡_}
 use Prim.Native.Nat.{ℕ, suc, pred, _+_, _-_, _<_}
 use denote.Ref.{RefT, now}
-use Rattle.blocks.specs.Reads.{Reads, given, run}
+use Rattle.blocks.specs.Reads.{Reads, Outcome, given, refused, run}
 use Rattle.blocks.specs.Blocks.{blockOf}
 use Rattle.blocks.specs.contracts.Images.{Lent, bytes, blocksIn, Pass}
 use Rattle.blocks.specs.contracts.Answers.{thereAs, Always}
 use Rattle.blocks.specs.declared.Address.{Address}
 use Rattle.blocks.specs.declared.AddressAnswer.{AddressAnswer}
-use Rattle.blocks.specs.declared.AddressAnswer.the-variants as address
+use Rattle.blocks.specs.declared.AddressAnswer.the-variants as answer
 use Rattle.blocks.specs.declared.Container.{Container}
 use Rattle.blocks.specs.declared.ObjectId.{ObjectId}
 use Rattle.blocks.specs.declared.Presence.{Presence}
@@ -25,11 +25,9 @@ use Rattle.checkpoint.specs.contracts.InPlace.{mappedIn}
 use Rattle.checkpoint.specs.declared.Checkpoint.{Checkpoint}
 use Rattle.block_map.specs.BlockMap.{Marked}
 use Rattle.block_map.specs.contracts.Maps.{Kept, Unlogged}
-use Rattle.report.specs.contracts.Steps.{outcomeOf, Stepped, pastOf, onFrom, Moves, MovesUnlogged}
+use Rattle.report.specs.contracts.Steps.{outcomeOf, Stepped, Moves, MovesUnlogged}
 use Rattle.report.specs.declared.Cursor.{Cursor}
-use Rattle.report.specs.declared.Ending.the-variants.{Done}
 use Rattle.report.specs.declared.OverlapLog.{OverlapLog}
-use Rattle.report.specs.declared.Step.the-variants as step
 use Rattle.pool.specs.declared.PoolPlace.{PoolPlace}
 use Rattle.queue.specs.Queue.{scanQueue, queue}
 use Rattle.audit.specs.Audit.{auditQueued}
@@ -41,7 +39,9 @@ use Rattle.claims.specs.declared.Claimed.{Claimed}
 use Rattle.trees.specs.contracts.Visits.{visitOn, treeVisit, treeChild, unloggedFor}
 use Rattle.trees.specs.contracts.Walks.{alongWay, pointersDown}
 use Rattle.trees.specs.contracts.Read.{ScanRead, TreeRead}
+use Rattle.trees.specs.declared.Child.{Child}
 use Rattle.trees.specs.declared.ChildStep.{ChildStep}
+use Rattle.trees.specs.declared.ChildStep.the-variants as child
 use Rattle.trees.specs.declared.Entered.{Entered}
 use Rattle.trees.specs.declared.Figures.{Figures}
 use Rattle.trees.specs.declared.Purpose.{Purpose}
@@ -131,13 +131,18 @@ FindsPointers node d r = let b = bytes node in Always (thereAs (pointersDown d b
 
 -- past the child at a cursor, by the answer for it
 abbrev pub childPast : AddressAnswer → Cursor → ChildStep
-childPast (address.Given a) at = record { step = pastOf Done at; child = a }
-childPast (address.Refused r) at = record { step = step.Refused r; child = record { 0 = 0 } }
+childPast (answer.Given a) at = child.On (record { address = a; rest = record { next = at .next + 1; left = at .left - 1 } })
+childPast (answer.Refused r) at = child.Refused r
+
+-- what the address of the child that a step found stands for, or its refusal
+abbrev pub childFrom : {A : Type 0} → ChildStep → (Address → A) → Outcome A
+childFrom (child.On x) stands = given (stands (x .address))
+childFrom (child.Refused r) stands = refused r
 
 -- a step past the child at a cursor: what its address stands for is what the definition finds
 pub record GoesPast {A : Type 0} (f : ℕ → List ℕ) (at : Cursor) (r : ChildStep) (stands : Address → A) (defined : Reads A) : Type 0 where
-  pub goes : onFrom (r .step) (λ to. given (stands (r .child))) ≡ run f defined
-  pub past : (to : Cursor) → r .step ≡ step.On to → to ≡ record { next = at .next + 1; left = at .left - 1 }
+  pub goes : childFrom r stands ≡ run f defined
+  pub past : (x : Child) → r ≡ child.On x → x .rest ≡ record { next = at .next + 1; left = at .left - 1 }
 
 -- the child's block is found, or its address
 abbrev pub FoundNext : (ℕ → List ℕ) → Cursor → ChildStep → Reads (List ℕ) → Type 0

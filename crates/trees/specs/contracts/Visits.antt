@@ -1,15 +1,13 @@
 -- One scan for all purposes: what it does at an entry, and how its tree names a child.
 use mathlib.Core.Bool.{Bool}
 use mathlib.Core.List.{List}
-use Prim.Native.Nat.{ℕ, _+_, _-_}
-use lib.Dec.{eqb}
-use Rattle.blocks.specs.Reads.{Reads, done, run, noBlocks, _>>=_, need}
+use Prim.Native.Nat.{ℕ, _-_}
+use Rattle.blocks.specs.Reads.{Reads, done, run, noBlocks, _>>=_}
 use Rattle.blocks.specs.contracts.Images.{Lent, bytes}
 use Rattle.blocks.specs.declared.Container.{Container}
 use Rattle.blocks.specs.declared.ObjectId.{ObjectId}
-use Rattle.blocks.specs.declared.Refusal.the-variants.{WrongLevel}
-use Rattle.nodes.specs.Node.{Entry, readNode, entry, pointer, levelOf}
-use Rattle.nodes.specs.Scan.{lookAt}
+use Rattle.nodes.specs.Node.{Entry, readNode}
+use Rattle.nodes.specs.Scan.{pointerPast, oneBelow}
 use Rattle.nodes.specs.declared.Description.{Description}
 use Rattle.checkpoint.specs.contracts.InPlace.{mappedIn}
 use Rattle.checkpoint.specs.declared.Checkpoint.{Checkpoint}
@@ -68,18 +66,7 @@ treeVisit f t purpose = visitOn (t .checkpoint) (t .pool) purpose f
 abbrev pub treeChild : (ℕ → List ℕ) → Tree → ℕ → Reads (List ℕ)
 treeChild f t = childFor (t .checkpoint .container) (mappedIn f (t .checkpoint)) (t .purpose)
 
--- the pointer of entry i of an index node, of which left come after it: "entry i + 1 is looked at before child i is read"
-unfoldable pub pointerPast : Description → List ℕ → ℕ → ℕ → Reads ℕ
-pointerPast d b left i = do
-  e ← entry d b i
-  _ ← lookAt d b left (i + 1)
-  pointer (e .value)
-
--- "each child must be exactly one level below its parent"
-unfoldable pub oneBelow : ℕ → List ℕ → Reads (List ℕ)
-oneBelow level n = need (eqb (levelOf n + 1) level) WrongLevel >>= λ _. done n
-
--- the child that it names, of a node of a level
+-- the child that entry i of an index node of a level names, of which left come after it
 unfoldable pub childBelow : Description → (ℕ → Reads (List ℕ)) → ℕ → List ℕ → ℕ → ℕ → Reads (List ℕ)
 childBelow d child level b left i = do
   a ← pointerPast d b left i

@@ -1,13 +1,12 @@
 -- A walk's steps, as the code makes them: children are read again in place, from the last to the first.
 use mathlib.Core.List.{List, [], _∷_}
 use Prim.Native.Nat.{ℕ, zero, suc}
-use lib.Dec.{ltb}
-use Rattle.blocks.specs.Reads.{Reads, done, refuse, Outcome, given, refused, run, noBlocks, _>>=_, need}
+use Rattle.blocks.specs.Reads.{Reads, done, refuse, Outcome, given, refused, run, noBlocks, _>>=_}
 use Rattle.blocks.specs.declared.Address.{Address}
 use Rattle.blocks.specs.declared.Container.{Container}
 use Rattle.blocks.specs.declared.Refusal.the-variants.{TooManyNodes}
-use Rattle.nodes.specs.Node.{entry, pointer, keyCount, readNode}
-use Rattle.nodes.specs.Walk.{Walked, each, walkBelow}
+use Rattle.nodes.specs.Node.{entry, pointer, keyCount}
+use Rattle.nodes.specs.Walk.{Walked, nextNode, each, walkBelow}
 use Rattle.nodes.specs.declared.Description.{Description}
 use Rattle.trees.specs.declared.Way.{Way}
 use Rattle.trees.specs.declared.Way.the-variants as way
@@ -28,13 +27,10 @@ unfoldable pub pointersDown : Description → List ℕ → ℕ → List ℕ
 pointersDown d b zero = []
 pointersDown d b (suc n) = pointerAt d b n ∷ pointersDown d b n
 
--- a node whose turn has come, where so many levels and nodes may still come, by its address: "22 .. (added; given before that node is read)"
-unfoldable pub nextNode : Container → ℕ → ℕ → ℕ → Reads Address
-nextNode c zero left a = refuse TooManyNodes
-nextNode c (suc levels) left a = do
-  _ ← need (ltb 0 left) TooManyNodes
-  _ ← readNode c (record { 0 = a })
-  done (record { 0 = a })
+-- the address of a node whose turn has come, where so many levels and nodes may still come
+unfoldable pub nextBelow : Container → ℕ → ℕ → ℕ → Reads Address
+nextBelow c zero left a = refuse TooManyNodes
+nextBelow c (suc levels) left a = nextNode c left (record { 0 = a }) >>= λ _. done (record { 0 = a })
 
 module _ {S : Type 0} (visit : S → Address → Reads S) (c : Container) (d : Description) where
   -- what follows once a node is visited and its way is known, where so many levels may lie below it

@@ -1,9 +1,9 @@
-use mathlib.Core.Path.{_≡_, refl, sym, _∙_}
+use mathlib.Core.Path.{_≡_, refl, _∙_}
 use Prim.Native.Nat.{_+_, _-_, _≤_, _<_}
 use native.Mathlib.Nat.{add-zero}
 use Rattle.interface.proofs.Laws.{same-stores, number-stored, numbers-stored}
 use lib.ListN.{length, drop}
-use Rattle.interface.specs.Figures.{stored}
+use Rattle.interface.specs.contracts.Stored.{stored}
 use borrow.Author.Needs.{needs}
 use Rattle.interface.proofs.figures.put_all.Statement.{statement}
 use Rattle.interface.proofs.figures.put_all.Tie as tie
@@ -42,7 +42,7 @@ same-length : tie.Need-same-length Inv-loop μ-loop
 same-length c = same-stores _ _ _ _ _ _ (c .before .loop .inv .1)
 
 returns : tie.Need-returns Inv-loop μ-loop
-returns c = let h : length (c .before .before .before .before .args .xs .now) ≤ c .before .loop .i = search needs in sym (numbers-stored _ _ _ _ h) ∙ c .before .loop .inv .1
+returns c = let h : length (c .before .before .before .before .args .xs .now) ≤ c .before .loop .i = search needs in numbers-stored _ _ _ _ _ h (c .before .loop .inv .1)
 
 pub put-all-spec : {M : Type 1} → statement M
 put-all-spec =

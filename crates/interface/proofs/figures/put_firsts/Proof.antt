@@ -1,29 +1,33 @@
-use mathlib.Core.List.{map}
-use mathlib.Core.Path.{_≡_, refl, sym, _∙_}
-use Prim.Native.Nat.{_+_, _-_, _≤_, _<_}
-use native.Mathlib.Nat.{add-zero}
-use lib.ListN.{length, drop, length-map, List·getD-map}
+use Rattle.interface.proofs.Laws.{same-stores, part-stored, parts-stored}
+use Rattle.interface.specs.contracts.Stored.{stored}
+use Rattle.interface.specs.Figures.{lostFirst}
 use borrow.Author.Needs.{needs}
-use Rattle.report.specs.Report.{kinds}
-use Rattle.interface.specs.Figures.{lostFirst, stored}
-use Rattle.interface.proofs.Laws.{same-stores, number-stored, numbers-stored}
+use lib.Seq.{slice}
+use lib.ListN.{length}
+use native.Mathlib.Nat.{add-zero, sub-self}
+use Prim.Native.Nat.{suc, _+_, _-_, _≤_, _<_}
+use mathlib.Core.Path.{_≡_, refl, _∙_}
+use mathlib.Core.List.{map}
 use Rattle.interface.proofs.figures.put_firsts.Statement.{statement}
 use Rattle.interface.proofs.figures.put_firsts.Tie as tie
 
 abbrev Inv-loop : tie.InvT-loop
-Inv-loop figures₀ at lost i₀ figures i = (i ≤ kinds) × (stored figures (at + i) (drop i (map lostFirst lost)) ≡ stored figures₀ at (map lostFirst lost))
+Inv-loop figures₀ at from to lost i₀ figures i = (from ≤ i) × (i ≤ to) × (stored figures (at + (i - from)) (map lostFirst (slice i to lost)) ≡ stored figures₀ at (map lostFirst (slice from to lost)))
 
 abbrev μ-loop : tie.MeasureT-loop
-μ-loop figures₀ at lost i₀ figures i = kinds - i
+μ-loop figures₀ at from to lost i₀ figures i = to - i
 
 loop-holds : tie.Need-loop-holds Inv-loop μ-loop
-loop-holds c = (search needs, rw add-zero refl)
+loop-holds c = (search needs, search needs, rw (sub-self, add-zero) refl)
 
 mul-l : tie.Need-mul-l Inv-loop μ-loop
 mul-l c = search needs
 
 array-copy-out-l : tie.Need-array-copy-out-l Inv-loop μ-loop
 array-copy-out-l c = search needs
+
+sub-put : tie.Need-sub-put Inv-loop μ-loop
+sub-put c = search needs
 
 add-put : tie.Need-add-put Inv-loop μ-loop
 add-put c = search needs
@@ -39,16 +43,22 @@ loop-less c = search needs
 
 loop-again : tie.Need-loop-again Inv-loop μ-loop
 loop-again c =
-    let h : c .before .before .before .before .before .before .loop .i < length (map lostFirst (c .before .before .before .before .before .before .before .before .args .t3)) = simp length-map (search needs) in
-    (search needs, number-stored _ _ _ _ _ _ (c .before .before .put .ensures) (sym (List·getD-map lostFirst (c .before .before .before .before .before .before .before .before .args .t3) (c .before .before .before .before .before .before .loop .i) (record { count = 0; first = 0 }))) h ∙ c .before .before .before .before .before .before .loop .inv .1)
+    let a = c .before .before .before .before .before .before .before .before .args in
+    let i = c .before .before .before .before .before .before .loop .i in
+    let inside : a .to ≤ length (a .t3) = search needs in
+    let left : i < a .to = search needs in
+    let next : a .at + (i + 1 - a .from) ≡ suc (a .at + (i - a .from)) = search needs in
+    (search needs, search needs, part-stored lostFirst _ _ inside _ _ (record { count = 0; first = 0 }) _ _ _ _ (c .before .before .put .ensures) refl next left ∙ c .before .before .before .before .before .before .loop .inv .2)
 
 same-length : tie.Need-same-length Inv-loop μ-loop
-same-length c = same-stores _ _ _ _ _ _ (c .before .loop .inv .1)
+same-length c = same-stores _ _ _ _ _ _ (c .before .loop .inv .2)
 
 returns : tie.Need-returns Inv-loop μ-loop
 returns c =
-    let h : length (map lostFirst (c .before .before .before .args .t3)) ≤ c .before .loop .i = simp length-map (search needs) in
-    sym (numbers-stored _ _ _ _ h) ∙ c .before .loop .inv .1
+    let a = c .before .before .before .args in
+    let inside : a .to ≤ length (a .t3) = search needs in
+    let ended : c .before .loop .i ≡ a .to = search needs in
+    parts-stored lostFirst _ _ inside _ _ _ _ _ _ ended (c .before .loop .inv .2)
 
 pub put-firsts-spec : {M : Type 1} → statement M
 put-firsts-spec =
@@ -59,6 +69,7 @@ put-firsts-spec =
     loop-holds
     mul-l
     array-copy-out-l
+    sub-put
     add-put
     put-requires
     add-i

@@ -1,11 +1,12 @@
 use mathlib.Core.List.{flatMap}
-use mathlib.Core.Path.{_≡_, refl, sym, _∙_}
+use mathlib.Core.Path.{_≡_, refl, _∙_}
 use Prim.Native.Nat.{_+_, _*_, _-_, _≤_, _<_}
 use native.Mathlib.Nat.{add-zero}
 use lib.ListN.{length, drop}
 use borrow.Author.Needs.{needs}
 use Rattle.report.specs.Report.{logged}
-use Rattle.interface.specs.Figures.{overlapFigures, stored}
+use Rattle.interface.specs.Figures.{overlapFigures}
+use Rattle.interface.specs.contracts.Stored.{stored}
 use Rattle.interface.proofs.Laws.{same-stores, row-stored, rows-stored}
 use Rattle.interface.proofs.figures.put_overlaps.Statement.{statement}
 use Rattle.interface.proofs.figures.put_overlaps.Tie as tie
@@ -52,15 +53,13 @@ loop-less c = search needs
 loop-again : tie.Need-loop-again Inv-loop μ-loop
 loop-again c =
     let h : c .before .before .before .before .before .before .before .before .before .loop .i < length (c .before .before .before .before .before .before .before .before .before .before .before .args .t3) = search needs in
-    (search needs, row-stored overlapFigures 3 (λ x. refl) _ _ _ _ _ _ (c .before .before .put-all .ensures) h ∙ c .before .before .before .before .before .before .before .before .before .loop .inv .1)
+    (search needs, row-stored overlapFigures 3 (λ x. refl) _ _ _ _ _ _ _ (c .before .before .put-all .ensures) h ∙ c .before .before .before .before .before .before .before .before .before .loop .inv .1)
 
 same-length : tie.Need-same-length Inv-loop μ-loop
 same-length c = same-stores _ _ _ _ _ _ (c .before .loop .inv .1)
 
 returns : tie.Need-returns Inv-loop μ-loop
-returns c =
-    let h : length (c .before .before .before .args .t3) ≤ c .before .loop .i = search needs in
-    (search needs, sym (rows-stored overlapFigures 3 (λ x. refl) _ _ _ _ h) ∙ c .before .loop .inv .1)
+returns c = rows-stored overlapFigures 3 (λ x. refl) _ _ _ _ _ logged (search needs) (search needs) (c .before .loop .inv .1)
 
 pub put-overlaps-spec : {M : Type 1} → statement M
 put-overlaps-spec =

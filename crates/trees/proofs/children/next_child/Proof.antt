@@ -10,7 +10,7 @@ past-requires : tie.Need-past-requires
 past-requires c κs = search needs
 
 returns : tie.Need-returns
-returns c = found-next (c .before .before .before .before .pre .0) (c .before .child-at .result) (c .past .ensures) (c .before .child-at .ensures)
+returns c = found-next (c .before .child-at .result) (c .past .ensures) (c .before .child-at .ensures)
 
 pub next-child-spec : {M : Type 1} → statement M
 next-child-spec = tie.close (tie.spec child-at-requires past-requires returns)

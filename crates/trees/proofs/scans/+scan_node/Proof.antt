@@ -73,8 +73,8 @@ scan-node-loop-holds t c = (c .key-count .ensures .1, left-first _ _ _ _ _)
 scan-node-next-child-requires : (t : ℕ) → scan-node-lts.Need-next-child-requires (calls t) (scan-node-at t) scan-node.Post scan-node-Inv-loop scan-node-μ-loop
 scan-node-next-child-requires t c κs = ((omega arith, omega (arith, c .before .before .loop .inv .1 .inside)), entry-read _ (c .before .before .before .before .before .before .before .before .before .before .before .args .tree) _ (c .before .before .before .before .before .before .before .before .before .before .before .pre .1) _ (c .before .before .before .before .before .before .block .ensures) (sym (c .before .before .before .before .before .is-leaf .ensures) ∙ c .before .before .before .before .if1 .left) _ _ (c .before .before .before .key-count .ensures .0) (omega (arith, c .before .before .loop .inv .1 .inside)))
 
-scan-node-enum-known-step : (t : ℕ) → scan-node-lts.Need-enum-known-step (calls t) (scan-node-at t) scan-node.Post scan-node-Inv-loop scan-node-μ-loop
-scan-node-enum-known-step t c = search needs
+scan-node-enum-known-moved : (t : ℕ) → scan-node-lts.Need-enum-known-moved (calls t) (scan-node-at t) scan-node.Post scan-node-Inv-loop scan-node-μ-loop
+scan-node-enum-known-moved t c = search needs
 
 scan-node-refused-requires : (t : ℕ) → scan-node-lts.Need-refused-requires (calls t) (scan-node-at t) scan-node.Post scan-node-Inv-loop scan-node-μ-loop
 scan-node-refused-requires t c κs = search needs
@@ -83,16 +83,16 @@ scan-node-same-length-2 : (t : ℕ) → scan-node-lts.Need-same-length-2 (calls 
 scan-node-same-length-2 t c = c .before .before .before .before .before .before .before .loop .inv .1 .kept .long
 
 scan-node-returns-2 : (t : ℕ) → scan-node-lts.Need-returns-2 (calls t) (scan-node-at t) scan-node.Post scan-node-Inv-loop scan-node-μ-loop
-scan-node-returns-2 t c = same-run _ (visit-is _ _ _ (c .refused .ensures) (left-stopped (c .before .before .before .before .before .before .before .loop .inv .1) _ _ (child-stops _ _ _ _ _ _ _ (omega arith) _ (c .before .before .before .before .next-child .ensures) _ _ (c .before .before .step .given .1)))) (whole-index _ _ _ _ _ _ _ _ _ (c .before .before .before .before .before .before .before .before .before .before .before .block .ensures) (sym (c .before .before .before .before .before .before .before .before .before .before .is-leaf .ensures) ∙ c .before .before .before .before .before .before .before .before .before .if1 .left) (c .before .before .before .before .before .before .before .before .key-count .ensures .0))
+scan-node-returns-2 t c = same-run _ (visit-is _ _ _ (c .refused .ensures) (left-stopped (c .before .before .before .before .before .before .before .loop .inv .1) _ _ (child-stops _ _ _ _ _ _ _ (omega arith) _ (c .before .before .before .before .next-child .ensures) _ _ (c .before .before .moved .given .1)))) (whole-index _ _ _ _ _ _ _ _ _ (c .before .before .before .before .before .before .before .before .before .before .before .block .ensures) (sym (c .before .before .before .before .before .before .before .before .before .before .is-leaf .ensures) ∙ c .before .before .before .before .before .before .before .before .before .if1 .left) (c .before .before .before .before .before .before .before .before .key-count .ensures .0))
 
-scan-node-enum-known-step-2 : (t : ℕ) → scan-node-lts.Need-enum-known-step-2 (calls t) (scan-node-at t) scan-node.Post scan-node-Inv-loop scan-node-μ-loop
-scan-node-enum-known-step-2 t c = search needs
+scan-node-enum-known-moved-2 : (t : ℕ) → scan-node-lts.Need-enum-known-moved-2 (calls t) (scan-node-at t) scan-node.Post scan-node-Inv-loop scan-node-μ-loop
+scan-node-enum-known-moved-2 t c = search needs
 
 scan-node-sub-scan-node : (t : ℕ) → scan-node-lts.Need-sub-scan-node (calls t) (scan-node-at t) scan-node.Post scan-node-Inv-loop scan-node-μ-loop
-scan-node-sub-scan-node t c = omega (arith, child-level _ _ _ (c .before .before .before .before .before .before .before .before .before .before .before .before .before .before .before .before .before .args .level) _ _ _ _ (found-child (c .before .before .before .before .before .next-child .ensures) _ (c .before .before .before .step2 .given .1)))
+scan-node-sub-scan-node t c = omega (arith, child-level _ _ _ (c .before .before .before .before .before .before .before .before .before .before .before .before .before .before .before .before .before .args .level) _ _ _ _ (found-child (c .before .before .before .before .before .next-child .ensures) _ (c .before .before .before .moved2 .given .1)))
 
 scan-node-scan-node-requires : (t : ℕ) → scan-node-lts.Need-scan-node-requires (calls t) (scan-node-at t) scan-node.Post scan-node-Inv-loop scan-node-μ-loop
-scan-node-scan-node-requires t c κs = (omega (arith, child-level _ _ _ (c .before .before .before .before .before .before .before .before .before .before .before .before .before .before .before .before .before .args .level) _ _ _ _ (found-child (c .before .before .before .before .before .next-child .ensures) _ (c .before .before .before .step2 .given .1))), child-scanned _ (c .before .before .before .before .before .before .before .before .before .before .before .before .before .before .before .before .before .args .tree) _ (c .before .before .before .before .before .before .before .before .before .before .before .before .before .before .before .before .before .pre .1) _ (c .before .before .before .before .before .before .before .before .before .before .before .before .block .ensures) (sym (c .before .before .before .before .before .before .before .before .before .before .before .is-leaf .ensures) ∙ c .before .before .before .before .before .before .before .before .before .before .if1 .left) _ _ (c .before .before .before .before .before .before .before .before .before .key-count .ensures .0) (omega (arith, c .before .before .before .before .before .before .before .before .loop .inv .1 .inside)) _ _ _ (found-child (c .before .before .before .before .before .next-child .ensures) _ (c .before .before .before .step2 .given .1)))
+scan-node-scan-node-requires t c κs = (omega (arith, child-level _ _ _ (c .before .before .before .before .before .before .before .before .before .before .before .before .before .before .before .before .before .args .level) _ _ _ _ (found-child (c .before .before .before .before .before .next-child .ensures) _ (c .before .before .before .moved2 .given .1))), child-scanned _ (c .before .before .before .before .before .before .before .before .before .before .before .before .before .before .before .before .before .args .tree) _ (c .before .before .before .before .before .before .before .before .before .before .before .before .before .before .before .before .before .pre .1) _ (c .before .before .before .before .before .before .before .before .before .before .before .before .block .ensures) (sym (c .before .before .before .before .before .before .before .before .before .before .before .is-leaf .ensures) ∙ c .before .before .before .before .before .before .before .before .before .before .if1 .left) _ _ (c .before .before .before .before .before .before .before .before .before .key-count .ensures .0) (omega (arith, c .before .before .before .before .before .before .before .before .loop .inv .1 .inside)) _ _ _ (found-child (c .before .before .before .before .before .next-child .ensures) _ (c .before .before .before .moved2 .given .1)))
 
 scan-node-enum-told : (t : ℕ) → scan-node-lts.Need-enum-told (calls t) (scan-node-at t) scan-node.Post scan-node-Inv-loop scan-node-μ-loop
 scan-node-enum-told t c = search needs
@@ -101,16 +101,16 @@ scan-node-same-length-3 : (t : ℕ) → scan-node-lts.Need-same-length-3 (calls 
 scan-node-same-length-3 t c = kept-then _ _ _ _ (c .before .before .before .before .before .before .before .before .before .before .before .before .before .loop .inv .1 .kept) (c .before .before .before .before .scan-node .ensures .kept) .long
 
 scan-node-returns-3 : (t : ℕ) → scan-node-lts.Need-returns-3 (calls t) (scan-node-at t) scan-node.Post scan-node-Inv-loop scan-node-μ-loop
-scan-node-returns-3 t c = same-run _ (ending-is _ _ (c .enum-told .given .1) (left-refused (c .before .before .before .before .before .before .before .before .before .before .before .before .before .loop .inv .1) (child-moves _ _ _ _ _ _ _ (omega arith) _ (c .before .before .before .before .before .before .before .before .before .before .next-child .ensures) _ _ (c .before .before .before .before .before .before .before .before .step2 .given .1) (omega (arith, c .before .before .before .before .before .before .before .before .before .before .before .before .before .loop .inv .1 .inside)) (c .before .before .before .before .scan-node .ensures)) _ _ (ap (λ (e : Ending). pastOf e (c .before .before .before .before .before .before .before .before .before .before .before .before .before .loop .at)) (c .enum-told .given .1)))) (whole-index _ _ _ _ _ _ _ _ _ (c .before .before .before .before .before .before .before .before .before .before .before .before .before .before .before .before .before .block .ensures) (sym (c .before .before .before .before .before .before .before .before .before .before .before .before .before .before .before .before .is-leaf .ensures) ∙ c .before .before .before .before .before .before .before .before .before .before .before .before .before .before .before .if1 .left) (c .before .before .before .before .before .before .before .before .before .before .before .before .before .before .key-count .ensures .0))
+scan-node-returns-3 t c = same-run _ (ending-is _ _ (c .enum-told .given .1) (left-refused (c .before .before .before .before .before .before .before .before .before .before .before .before .before .loop .inv .1) (child-moves _ _ _ _ _ _ _ (omega arith) _ (c .before .before .before .before .before .before .before .before .before .before .next-child .ensures) _ _ (c .before .before .before .before .before .before .before .before .moved2 .given .1) (omega (arith, c .before .before .before .before .before .before .before .before .before .before .before .before .before .loop .inv .1 .inside)) (c .before .before .before .before .scan-node .ensures)) _ _ (ap (λ (e : Ending). pastOf e (c .before .before .before .before .before .before .before .before .before .before .before .before .before .loop .at)) (c .enum-told .given .1)))) (whole-index _ _ _ _ _ _ _ _ _ (c .before .before .before .before .before .before .before .before .before .before .before .before .before .before .before .before .before .block .ensures) (sym (c .before .before .before .before .before .before .before .before .before .before .before .before .before .before .before .before .is-leaf .ensures) ∙ c .before .before .before .before .before .before .before .before .before .before .before .before .before .before .before .if1 .left) (c .before .before .before .before .before .before .before .before .before .before .before .before .before .before .key-count .ensures .0))
 
 scan-node-enum-told-2 : (t : ℕ) → scan-node-lts.Need-enum-told-2 (calls t) (scan-node-at t) scan-node.Post scan-node-Inv-loop scan-node-μ-loop
 scan-node-enum-told-2 t c = search needs
 
 scan-node-loop-less : (t : ℕ) → scan-node-lts.Need-loop-less (calls t) (scan-node-at t) scan-node.Post scan-node-Inv-loop scan-node-μ-loop
-scan-node-loop-less t c = omega (arith, ap (λ (x : Cursor). x .left) (c .before .before .before .before .before .before .before .before .before .before .before .next-child .ensures .past _ (c .before .before .before .before .before .before .before .before .before .step2 .given .1)))
+scan-node-loop-less t c = omega (arith, ap (λ (x : Cursor). x .left) (c .before .before .before .before .before .before .before .before .before .before .before .before .next-child .ensures .past _ (c .before .before .before .before .before .before .before .before .before .before .moved2 .given .1)))
 
 scan-node-loop-again : (t : ℕ) → scan-node-lts.Need-loop-again (calls t) (scan-node-at t) scan-node.Post scan-node-Inv-loop scan-node-μ-loop
-scan-node-loop-again t c = (c .before .before .before .before .before .before .before .before .before .before .before .before .before .before .loop .inv .0, left-on (c .before .before .before .before .before .before .before .before .before .before .before .before .before .before .loop .inv .1) (child-moves _ _ _ _ _ _ _ (omega arith) _ (c .before .before .before .before .before .before .before .before .before .before .before .next-child .ensures) _ _ (c .before .before .before .before .before .before .before .before .before .step2 .given .1) (omega (arith, c .before .before .before .before .before .before .before .before .before .before .before .before .before .before .loop .inv .1 .inside)) (c .before .before .before .before .before .scan-node .ensures)) _ (past-on _ _ _ (c .before .enum-told2 .given .1) (c .before .before .before .before .before .before .before .before .before .before .before .next-child .ensures .past _ (c .before .before .before .before .before .before .before .before .before .step2 .given .1)) (omega (arith, c .before .before .before .before .before .before .before .before .before .before .before .before .before .before .loop .inv .1 .inside))))
+scan-node-loop-again t c = (c .before .before .before .before .before .before .before .before .before .before .before .before .before .before .before .loop .inv .0, left-on (c .before .before .before .before .before .before .before .before .before .before .before .before .before .before .before .loop .inv .1) (child-moves _ _ _ _ _ _ _ (omega arith) _ (c .before .before .before .before .before .before .before .before .before .before .before .before .next-child .ensures) _ _ (c .before .before .before .before .before .before .before .before .before .before .moved2 .given .1) (omega (arith, c .before .before .before .before .before .before .before .before .before .before .before .before .before .before .before .loop .inv .1 .inside)) (c .before .before .before .before .before .before .scan-node .ensures)) _ (past-on _ _ _ (c .before .before .enum-told2 .given .1) (c .before .before .before .before .before .before .before .before .before .before .before .before .next-child .ensures .past _ (c .before .before .before .before .before .before .before .before .before .before .moved2 .given .1)) (omega (arith, c .before .before .before .before .before .before .before .before .before .before .before .before .before .before .before .loop .inv .1 .inside))))
 
 scan-node-done-requires : (t : ℕ) → scan-node-lts.Need-done-requires (calls t) (scan-node-at t) scan-node.Post scan-node-Inv-loop scan-node-μ-loop
 scan-node-done-requires t c κs = search needs
@@ -135,11 +135,11 @@ pub +scan-node-spec : {M : Type 1} → statement M
     (scan-node-key-count-requires t)
     (scan-node-loop-holds t)
     (scan-node-next-child-requires t)
-    (scan-node-enum-known-step t)
+    (scan-node-enum-known-moved t)
     (scan-node-refused-requires t)
     (scan-node-same-length-2 t)
     (scan-node-returns-2 t)
-    (scan-node-enum-known-step-2 t)
+    (scan-node-enum-known-moved-2 t)
     (scan-node-sub-scan-node t)
     (scan-node-scan-node-requires t)
     (scan-node-enum-told t)

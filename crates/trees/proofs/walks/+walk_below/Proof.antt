@@ -91,8 +91,8 @@ walk-below-loop-holds t c = record { kept = kept-same _ _; inside = omega (arith
 walk-below-next-below-requires : (t : ℕ) → walk-below-lts.Need-next-below-requires (calls t) (walk-below-at t) walk-below.Post walk-below-Inv-loop walk-below-μ-loop
 walk-below-next-below-requires t c κs = (omega arith, c .before .before .loop .inv .inside)
 
-walk-below-enum-known-step : (t : ℕ) → walk-below-lts.Need-enum-known-step (calls t) (walk-below-at t) walk-below.Post walk-below-Inv-loop walk-below-μ-loop
-walk-below-enum-known-step t c = search needs
+walk-below-enum-known-moved : (t : ℕ) → walk-below-lts.Need-enum-known-moved (calls t) (walk-below-at t) walk-below.Post walk-below-Inv-loop walk-below-μ-loop
+walk-below-enum-known-moved t c = search needs
 
 walk-below-stopped-requires-2 : (t : ℕ) → walk-below-lts.Need-stopped-requires-2 (calls t) (walk-below-at t) walk-below.Post walk-below-Inv-loop walk-below-μ-loop
 walk-below-stopped-requires-2 t c κs = search needs
@@ -101,31 +101,31 @@ walk-below-same-length : (t : ℕ) → walk-below-lts.Need-same-length (calls t)
 walk-below-same-length t c = search needs
 
 walk-below-returns : (t : ℕ) → walk-below-lts.Need-returns (calls t) (walk-below-at t) walk-below.Post walk-below-Inv-loop walk-below-μ-loop
-walk-below-returns t c = walks-refused _ _ _ _ (head t (c .before .before .before .before .before .before .before) .kept) _ _ _ _ _ (left-unread (head t (c .before .before .before .before .before .before .before)) (c .before .before .before .before .before .if1 .taken) (c .before .before .before .before .next-below .ensures) _ (c .before .before .step .given .1)) (c .stopped2 .ensures)
+walk-below-returns t c = walks-refused _ _ _ _ (head t (c .before .before .before .before .before .before .before) .kept) _ _ _ _ _ (left-unread (head t (c .before .before .before .before .before .before .before)) (c .before .before .before .before .before .if1 .taken) (c .before .before .before .before .next-below .ensures) _ (c .before .before .moved .given .1)) (c .stopped2 .ensures)
 
-walk-below-enum-known-step-2 : (t : ℕ) → walk-below-lts.Need-enum-known-step-2 (calls t) (walk-below-at t) walk-below.Post walk-below-Inv-loop walk-below-μ-loop
-walk-below-enum-known-step-2 t c = search needs
+walk-below-enum-known-moved-2 : (t : ℕ) → walk-below-lts.Need-enum-known-moved-2 (calls t) (walk-below-at t) walk-below.Post walk-below-Inv-loop walk-below-μ-loop
+walk-below-enum-known-moved-2 t c = search needs
 
 walk-below-walk-below-requires : (t : ℕ) → walk-below-lts.Need-walk-below-requires (calls t) (walk-below-at t) walk-below.Post walk-below-Inv-loop walk-below-μ-loop
-walk-below-walk-below-requires t c κs = (omega (arith, c .before .before .before .before .before .before .before .before .before .before .before .before .before .before .before .before .before .before .before .before .pre .0, c .before .before .before .before .before .before .before .before .before .before .before .before .before .before .before .before .before .before .before .before .pre .1 .0), left-child (c .before .before .before .before .before .before .before .before .loop .inv) (c .before .before .before .before .before .before .if1 .taken) (c .before .before .before .before .before .next-below .ensures) _ (c .before .before .before .step2 .given .1))
+walk-below-walk-below-requires t c κs = (omega (arith, c .before .before .before .before .before .before .before .before .before .before .before .before .before .before .before .before .before .before .before .before .pre .0, c .before .before .before .before .before .before .before .before .before .before .before .before .before .before .before .before .before .before .before .before .pre .1 .0), left-child (c .before .before .before .before .before .before .before .before .loop .inv) (c .before .before .before .before .before .before .if1 .taken) (c .before .before .before .before .before .next-below .ensures) _ (c .before .before .before .moved2 .given .1))
 
 walk-below-enum-told-3 : (t : ℕ) → walk-below-lts.Need-enum-told-3 (calls t) (walk-below-at t) walk-below.Post walk-below-Inv-loop walk-below-μ-loop
 walk-below-enum-told-3 t c = search needs
 
 walk-below-same-length-2 : (t : ℕ) → walk-below-lts.Need-same-length-2 (calls t) (walk-below-at t) walk-below.Post walk-below-Inv-loop walk-below-μ-loop
-walk-below-same-length-2 t c = left-kept (head t (c .before .before .before .before .before .before .before .before .before .before .before .before .before)) (c .before .before .before .before .before .before .before .before .before .before .before .if1 .taken) (c .before .before .before .before .before .before .before .before .before .before .next-below .ensures) _ (c .before .before .before .before .before .before .before .before .step2 .given .1) (c .before .before .before .before .walk-below .ensures) .long
+walk-below-same-length-2 t c = left-kept (head t (c .before .before .before .before .before .before .before .before .before .before .before .before .before)) (c .before .before .before .before .before .before .before .before .before .before .before .if1 .taken) (c .before .before .before .before .before .before .before .before .before .before .next-below .ensures) _ (c .before .before .before .before .before .before .before .before .moved2 .given .1) (c .before .before .before .before .walk-below .ensures) .long
 
 walk-below-returns-2 : (t : ℕ) → walk-below-lts.Need-returns-2 (calls t) (walk-below-at t) walk-below.Post walk-below-Inv-loop walk-below-μ-loop
-walk-below-returns-2 t c = walks-stopped _ _ _ _ (left-kept (head t (c .before .before .before .before .before .before .before .before .before .before .before .before .before)) (c .before .before .before .before .before .before .before .before .before .before .before .if1 .taken) (c .before .before .before .before .before .before .before .before .before .before .next-below .ensures) _ (c .before .before .before .before .before .before .before .before .step2 .given .1) (c .before .before .before .before .walk-below .ensures)) _ _ _ (left-refused (head t (c .before .before .before .before .before .before .before .before .before .before .before .before .before)) (c .before .before .before .before .before .before .before .before .before .before .before .if1 .taken) (c .before .before .before .before .before .before .before .before .before .before .next-below .ensures) _ (c .before .before .before .before .before .before .before .before .step2 .given .1) (c .before .before .before .before .walk-below .ensures) _ (c .enum-told3 .given .1)) (c .enum-told3 .given .1)
+walk-below-returns-2 t c = walks-stopped _ _ _ _ (left-kept (head t (c .before .before .before .before .before .before .before .before .before .before .before .before .before)) (c .before .before .before .before .before .before .before .before .before .before .before .if1 .taken) (c .before .before .before .before .before .before .before .before .before .before .next-below .ensures) _ (c .before .before .before .before .before .before .before .before .moved2 .given .1) (c .before .before .before .before .walk-below .ensures)) _ _ _ (left-refused (head t (c .before .before .before .before .before .before .before .before .before .before .before .before .before)) (c .before .before .before .before .before .before .before .before .before .before .before .if1 .taken) (c .before .before .before .before .before .before .before .before .before .before .next-below .ensures) _ (c .before .before .before .before .before .before .before .before .moved2 .given .1) (c .before .before .before .before .walk-below .ensures) _ (c .enum-told3 .given .1)) (c .enum-told3 .given .1)
 
 walk-below-enum-told-4 : (t : ℕ) → walk-below-lts.Need-enum-told-4 (calls t) (walk-below-at t) walk-below.Post walk-below-Inv-loop walk-below-μ-loop
 walk-below-enum-told-4 t c = search needs
 
 walk-below-loop-less : (t : ℕ) → walk-below-lts.Need-loop-less (calls t) (walk-below-at t) walk-below.Post walk-below-Inv-loop walk-below-μ-loop
-walk-below-loop-less t c = left-less (c .before .before .before .before .before .before .before .before .before .before .before .before .before .before .loop .inv) (c .before .before .before .before .before .before .before .before .before .before .before .before .if1 .taken) (c .before .before .before .before .before .before .before .before .before .before .before .next-below .ensures) _ (c .before .before .before .before .before .before .before .before .before .step2 .given .1)
+walk-below-loop-less t c = left-less (c .before .before .before .before .before .before .before .before .before .before .before .before .before .before .before .loop .inv) (c .before .before .before .before .before .before .before .before .before .before .before .before .before .if1 .taken) (c .before .before .before .before .before .before .before .before .before .before .before .before .next-below .ensures) _ (c .before .before .before .before .before .before .before .before .before .before .moved2 .given .1)
 
 walk-below-loop-again : (t : ℕ) → walk-below-lts.Need-loop-again (calls t) (walk-below-at t) walk-below.Post walk-below-Inv-loop walk-below-μ-loop
-walk-below-loop-again t c = left-more (c .before .before .before .before .before .before .before .before .before .before .before .before .before .before .loop .inv) (c .before .before .before .before .before .before .before .before .before .before .before .before .if1 .taken) (c .before .before .before .before .before .before .before .before .before .before .before .next-below .ensures) _ (c .before .before .before .before .before .before .before .before .before .step2 .given .1) (c .before .before .before .before .before .walk-below .ensures) (c .before .enum-told4 .given .1)
+walk-below-loop-again t c = left-more (c .before .before .before .before .before .before .before .before .before .before .before .before .before .before .before .loop .inv) (c .before .before .before .before .before .before .before .before .before .before .before .before .before .if1 .taken) (c .before .before .before .before .before .before .before .before .before .before .before .before .next-below .ensures) _ (c .before .before .before .before .before .before .before .before .before .before .moved2 .given .1) (c .before .before .before .before .before .before .walk-below .ensures) (c .before .before .enum-told4 .given .1)
 
 walk-below-done-requires-2 : (t : ℕ) → walk-below-lts.Need-done-requires-2 (calls t) (walk-below-at t) walk-below.Post walk-below-Inv-loop walk-below-μ-loop
 walk-below-done-requires-2 t c κs = search needs
@@ -167,11 +167,11 @@ pub +walk-below-spec : {M : Type 1} → statement M
     (walk-below-key-count-requires t)
     (walk-below-loop-holds t)
     (walk-below-next-below-requires t)
-    (walk-below-enum-known-step t)
+    (walk-below-enum-known-moved t)
     (walk-below-stopped-requires-2 t)
     (walk-below-same-length t)
     (walk-below-returns t)
-    (walk-below-enum-known-step-2 t)
+    (walk-below-enum-known-moved-2 t)
     (walk-below-walk-below-requires t)
     (walk-below-enum-told-3 t)
     (walk-below-same-length-2 t)

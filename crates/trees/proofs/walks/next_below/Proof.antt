@@ -16,7 +16,7 @@ past-requires : tie.Need-past-requires
 past-requires c κs = search needs
 
 returns : tie.Need-returns
-returns c = named-next (c .before .before .before .before .before .before .pre) (c .before .read-next .result) (c .past .ensures) (rw (← c .before .before .pointer-at .ensures) (c .before .read-next .ensures))
+returns c = named-next (c .before .read-next .result) (c .past .ensures) (rw (← c .before .before .pointer-at .ensures) (c .before .read-next .ensures))
 
 pub next-below-spec : {M : Type 1} → statement M
 next-below-spec =
