@@ -15,9 +15,9 @@ ghost use lib.ListN.{length, set};
 ghost use lib.Seq.{slice};
 ghost use Rattle.report.specs.Report.{logged, kinds, endingNumber};
 ghost use Rattle.interface.specs.Places.{overlapsAt, answerFigures};
-ghost use Rattle.interface.specs.Figures.{problemFigures, overlapFigures, lostCount, lostFirst, lostFigures};
+ghost use Rattle.interface.specs.Figures.{problemFigures, overlapFigures, lostFigures};
 ghost use Rattle.interface.specs.Figures.{auditFigures, claimFigures, baseFigures, laterFigures, written};
-ghost use Rattle.interface.specs.contracts.Stored.{Stores, laterAt};
+ghost use Rattle.interface.specs.contracts.Stored.{lostNumber, Stores, laterAt};
 
 // How many numbers a problem and an overlap have.
 const PROBLEM_FIGURES: usize = 2;
@@ -92,33 +92,38 @@ fn put_overlaps(figures: &mut [u64], at: usize, overlaps: [Overlap; LOGGED])
     }
 }
 
+// How many blocks of a kind are lost, or the first of them.
+fn lost_number(lost: Lost, first: bool) -> u64
+    ensures { λ r. ⌜ r ≡ lostNumber first lost ⌝ }
+{
+    if first { lost.first } else { lost.count }
+}
+
 // Kinds by their places in a report, from one up to another.
-fn put_counts(figures: &mut [u64], at: usize, lost: [Lost; KINDS], from: usize, to: usize)
+fn put_numbers(
+    figures: &mut [u64],
+    at: usize,
+    lost: [Lost; KINDS],
+    from: usize,
+    to: usize,
+    first: bool,
+)
     requires { ⌜ (at < 2 ^ 32) × (from ≤ to) × (to ≤ kinds) ⌝ }
-    ensures { λ r. ⌜ Stores (now (figures .entry)) (now (figures .exit)) at (at + (to - from)) (map lostCount (slice from to lost)) ⌝ }
+    ensures { λ r. ⌜ Stores (now (figures .entry)) (now (figures .exit)) at (at + (to - from)) (map (lostNumber first) (slice from to lost)) ⌝ }
 {
     for i in from..to {
         let l = lost[i];
-        put(figures, at + (i - from), l.count);
+        put(figures, at + (i - from), lost_number(l, first));
     }
 }
 
-fn put_firsts(figures: &mut [u64], at: usize, lost: [Lost; KINDS], from: usize, to: usize)
-    requires { ⌜ (at < 2 ^ 32) × (from ≤ to) × (to ≤ kinds) ⌝ }
-    ensures { λ r. ⌜ Stores (now (figures .entry)) (now (figures .exit)) at (at + (to - from)) (map lostFirst (slice from to lost)) ⌝ }
-{
-    for i in from..to {
-        let l = lost[i];
-        put(figures, at + (i - from), l.first);
-    }
-}
-
+// How many of each, then the first of each.
 fn put_lost(figures: &mut [u64], at: usize, lost: [Lost; KINDS], from: usize, to: usize)
     requires { ⌜ (at ≤ answerFigures) × (from ≤ to) × (to ≤ kinds) ⌝ }
     ensures { λ r. ⌜ Stores (now (figures .entry)) (now (figures .exit)) at (at + 2 * (to - from)) (lostFigures (slice from to lost)) ⌝ }
 {
-    put_counts(figures, at, lost, from, to);
-    put_firsts(figures, at + (to - from), lost, from, to);
+    put_numbers(figures, at, lost, from, to, false);
+    put_numbers(figures, at + (to - from), lost, from, to, true);
 }
 
 // The refusal's number, or 0, the xid, and what the bitmaps say.
