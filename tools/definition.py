@@ -35,7 +35,8 @@ def refusals():
 
 def listed(name):
     """A list of texts of the listing's lines, by number from 1 on."""
-    block = re.search(rf'^{name} =\n(.*?)\n\n', read_text('crates', 'listing', 'specs', 'Lines.antt'), re.MULTILINE | re.DOTALL)
+    lines = read_text('crates', 'listing_text', 'specs', 'Lines.antt')
+    block = re.search(rf'^{name} =\n(.*?)\n\n', lines, re.MULTILINE | re.DOTALL)
     return dict(enumerate(re.findall(r'ascii "(.*?)"', block[1]), 1))
 
 
@@ -46,5 +47,4 @@ def kinds():
 
 def problems():
     """What the listing says of each problem, by its number, with {} for the block."""
-    blocks, wrong = listed('problemBlocks'), listed('problems')
-    return {number: f'{block}{{}}{wrong[number]}' for number, block in blocks.items()}
+    return {number: text.strip().replace('0x@', '{}') for number, text in listed('problemFormats').items()}

@@ -112,7 +112,7 @@ class Answers(CommandTest):
         self.assertEqual([int(number) for number, _ in rows[len(owners):]], sorted(REFUSALS.values()))
 
     def test_lines_are_those_of_the_proved_listing(self):
-        """The program crates/listing, whose lines are proved, on the images that it takes whole."""
+        """The program crates/listing, whose text is proved, on the images that it takes whole."""
         self.assertTrue(os.path.exists(LISTING), '`rt check listing` makes the program')
         reports = 0
         for v in known():

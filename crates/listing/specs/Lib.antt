@@ -1,3 +1,2 @@
--- Text in a lent line, and the lines of the listing.
-pub mod Text
-pub mod Lines
+-- What the program prints.
+pub mod Printed

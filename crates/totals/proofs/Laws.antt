@@ -93,7 +93,7 @@ module _ (test : ℕ → Bool) where
   count-more cells i n next met h is e = rw (drop-cons cells i 0 h, add-one, e, is) refl
 
   -- n more and then those of a row, in a sum
-  count-from : (xs : List ℕ) (n : ℕ) → countIn test xs n ≡ n + countIn test xs 0
+  pub count-from : (xs : List ℕ) (n : ℕ) → countIn test xs n ≡ n + countIn test xs 0
   unfolding countIn
   count-from [] n = omega arith
   count-from (x ∷ xs) n =

@@ -1,0 +1,109 @@
+-- Listings, computed: one with lines of every sort, and refusals (document 01's sample: listing/proofs/Sample.antt). The kinds' order
+-- is that of their names.
+use mathlib.Core.Path.{_≡_, refl}
+use mathlib.Core.Bool.{Bool, true, false, _&&_}
+use mathlib.Core.List.{List, [], _∷_, _++_, map, flatMap, flatten}
+use Prim.Native.Nat.{ℕ, zero, suc, _+_, _^_, _-_}
+use lib.Dec.{eqb, ltb}
+use lib.ListN.{replicate}
+use Rattle.fields.specs.Choice.{pick}
+use Rattle.blocks.specs.declared.Refusal.the-variants.{ShortImage, TooManyNodes}
+use Rattle.report.specs.Report.{noProblems, noOverlaps, kinds, zeroReport, refusal, reported}
+use Rattle.report.specs.declared.Answer.{Answer}
+use Rattle.report.specs.declared.Overlap.{Overlap}
+use Rattle.report.specs.declared.Report.{Report}
+use Rattle.totals.specs.Totals.{inconsistent, lostIn}
+use Rattle.totals.specs.contracts.Counting.{noLost}
+use Rattle.listing_text.specs.Text.{ascii, placesFrom, numeral, decimal, hex}
+use Rattle.listing_text.specs.Lines.{kindNames, kindName, piece, taken, filledFrom, problemFormats, problemFormat}
+use Rattle.listing_text.specs.Listing.{placesByName, lostKindLineOf, reportLines, answerLines, listingOf}
+
+unfoldable pub computed : Answer → List ℕ
+unfolding noProblems noOverlaps zeroReport refusal reported lostIn placesFrom numeral kindNames kindName piece taken filledFrom problemFormats problemFormat flatMap flatten placesByName lostKindLineOf reportLines answerLines listingOf
+computed a = listingOf a
+
+-- compare's image seed-2255, with the original's lines but for the size for people, and with document 01's last: a problem, overlaps,
+-- a lost block
+overlap : ℕ → ℕ → ℕ → Overlap
+overlap block owner claimant = record { block = block; owner = owner; claimant = claimant }
+
+unfoldable damaged : Report
+unfolding overlap
+damaged =
+    record {
+      xid = 324;
+      «pool_used» = 3;
+      «pool_unused» = 0;
+      problems = record { total = 1; first = record { kind = 4; block = 4 } ∷ replicate 9 (record { kind = 0; block = 0 }) };
+      free = 3;
+      «wrong_chunks» = 1;
+      «device_free» = 2;
+      overlaps =
+          record {
+            total = 6;
+            first =
+                overlap 0 1 2 ∷ overlap 14 3 5 ∷ overlap 15 3 5 ∷ overlap 13 5 6 ∷ overlap 12 5 7 ∷ overlap 9 5 8 ∷ replicate 4 (overlap 0 0 0);
+          };
+      lost = replicate 4 noLost ++ (record { count = 1; first = 8 } ∷ replicate 4 noLost);
+      leaked = 0;
+      verdict = inconsistent;
+    }
+
+every-line : listingOf (reported damaged)
+    ≡ ascii "space check  stdin  xid 324\n"
+    ++ ascii "internal pool  3 blocks in use, 0 marked but unused, 1 problems\n"
+    ++ ascii "  queued internal-pool block 0x4 is already free\n"
+    ++ ascii "bitmaps    3 blocks free; chunks with a wrong free count: 1; device free count 2 (DOES NOT MATCH)\n"
+    ++ ascii "overlaps   6 blocks claimed by two different things\n"
+    ++ ascii "  block 0x0: container superblock and checkpoint descriptor area\n"
+    ++ ascii "  block 0xe: checkpoint data area and internal-pool bitmap ring\n"
+    ++ ascii "  block 0xf: checkpoint data area and internal-pool bitmap ring\n"
+    ++ ascii "  block 0xd: internal-pool bitmap ring and object map\n"
+    ++ ascii "  block 0xc: internal-pool bitmap ring and object map node\n"
+    ++ ascii "  block 0x9: internal-pool bitmap ring and volume superblock\n"
+    ++ ascii "in use but marked free: 1 blocks\n"
+    ++ ascii "  internal-pool bitmap ring: 1 (first at 0x8)\n"
+    ++ ascii "allocated but unused (leaked): 0 blocks\n"
+    ++ ascii "result     inconsistent\n"
+unfolding computed damaged
+every-line = refl
+
+-- "or only `refused N`"
+first-refusal : listingOf (refusal ShortImage) ≡ ascii "refused 1\n"
+unfolding computed
+first-refusal = refl
+
+last-refusal : listingOf (refusal TooManyNodes) ≡ ascii "refused 22\n"
+unfolding computed
+last-refusal = refl
+
+-- numbers at both ends
+numbers : List (List ℕ)
+numbers = decimal 0 ∷ decimal 10 ∷ decimal (2 ^ 64 - 1) ∷ hex 0 ∷ hex 16 ∷ hex (2 ^ 64 - 1) ∷ []
+
+spelt : numbers ≡ ascii "0" ∷ ascii "10" ∷ ascii "18446744073709551615" ∷ ascii "0" ∷ ascii "10" ∷ ascii "ffffffffffffffff" ∷ []
+unfolding computed numbers
+spelt = refl
+
+-- lost lines by name: each place once, and the names rise
+before : List ℕ → List ℕ → Bool
+before xs [] = false
+before [] (y ∷ ys) = true
+before (x ∷ xs) (y ∷ ys) = pick (eqb x y) (before xs ys) (ltb x y)
+
+rise : List (List ℕ) → Bool
+rise [] = true
+rise (x ∷ []) = true
+rise (x ∷ y ∷ ys) = before x y && rise (y ∷ ys)
+
+count : ℕ → List ℕ → ℕ
+count n [] = 0
+count n (x ∷ xs) = pick (eqb n x) 1 0 + count n xs
+
+allOnce : ℕ → List ℕ → Bool
+allOnce zero xs = true
+allOnce (suc n) xs = eqb (count n xs) 1 && allOnce n xs
+
+by-name : rise (map (λ place. kindName (place + 1)) placesByName) && allOnce kinds placesByName ≡ true
+unfolding computed before rise count allOnce
+by-name = refl

@@ -1,0 +1,64 @@
+-- The listing of an answer: its lines in the order of document 01's sample.
+use mathlib.Core.List.{List, [], _∷_, _++_, flatMap, flatten}
+use Prim.Native.Nat.{ℕ, _+_, _%_, _^_, min}
+use lib.Dec.{eqb}
+use lib.ListN.{getD, take}
+use Rattle.fields.specs.Choice.{pick}
+use Rattle.blocks.specs.Refusals.{numberOf}
+use Rattle.report.specs.Report.{logged}
+use Rattle.report.specs.declared.Problem.{Problem}
+use Rattle.report.specs.declared.Overlap.{Overlap}
+use Rattle.report.specs.declared.Lost.{Lost}
+use Rattle.report.specs.declared.Report.{Report}
+use Rattle.report.specs.declared.Ending.{Ending}
+use Rattle.report.specs.declared.Ending.the-variants.{Done, Refused}
+use Rattle.report.specs.declared.Answer.{Answer}
+use Rattle.totals.specs.Totals.{lostIn}
+use Rattle.listing_text.specs.Lines.{titleLine, poolLine, problemLine, bitmapsLine, overlapsLine, overlapLine, lostLine, lostKindLine, leakedLine, resultLine, refusedLine}
+
+-- "the first ten problems", "overlaps and the first ten": those that a log names, of all that were met
+abbrev pub named : {A : Type 0} → ℕ → List A → List A
+named total first = take (min total logged) first
+
+abbrev pub problemLineOf : Problem → List (List ℕ)
+problemLineOf p = problemLine (p .kind) (p .block)
+
+abbrev pub overlapLineOf : Overlap → List (List ℕ)
+overlapLineOf o = overlapLine (o .block) (o .owner) (o .claimant)
+
+-- "lost lines are the Rust's": in the order of the kinds' names, by their places in a report
+unfoldable pub placesByName : List ℕ
+placesByName = 2 ∷ 1 ∷ 0 ∷ 8 ∷ 3 ∷ 4 ∷ 5 ∷ 6 ∷ 7 ∷ []
+
+-- the blocks that the kind at a place lost
+abbrev pub lostAt : List Lost → ℕ → Lost
+lostAt lost place = getD lost place (record { count = 0; first = 0 })
+
+-- .. and only of kinds that lost a block
+unfoldable pub lostKindLineOf : List Lost → ℕ → List (List ℕ)
+lostKindLineOf lost place = pick (eqb (lostAt lost place .count) 0) [] (lostKindLine (place + 1) (lostAt lost place .count) (lostAt lost place .first))
+
+-- the lost blocks of all kinds; in a pass's report their sum is below 2^64, and so printed as it is (listing/proofs/Total.antt)
+abbrev pub lostTotal : List Lost → ℕ
+lostTotal lost = lostIn lost 0 % 2 ^ 64
+
+unfoldable pub reportLines : Report → List (List ℕ)
+reportLines r =
+    titleLine (r .xid)
+    ++ poolLine (r .«pool_used») (r .«pool_unused») (r .problems .total)
+    ++ flatMap problemLineOf (named (r .problems .total) (r .problems .first))
+    ++ bitmapsLine (r .free) (r .«wrong_chunks») (r .«device_free»)
+    ++ overlapsLine (r .overlaps .total)
+    ++ flatMap overlapLineOf (named (r .overlaps .total) (r .overlaps .first))
+    ++ lostLine (lostTotal (r .lost))
+    ++ flatMap (lostKindLineOf (r .lost)) placesByName
+    ++ leakedLine (r .leaked)
+    ++ resultLine (r .verdict)
+
+unfoldable pub answerLines : Ending → Report → List (List ℕ)
+answerLines Done report = reportLines report
+answerLines (Refused r) report = refusedLine (numberOf r)
+
+-- the bytes printed
+unfoldable pub listingOf : Answer → List ℕ
+listingOf a = flatten (answerLines (a .ending) (a .report))
