@@ -8,7 +8,7 @@ ghost use Rattle.listing.specs.Printed.{Prints};
 // An image of 65,536 bytes has no more blocks: each has 4,096 bytes at least.
 const MAP_BYTES: usize = 16;
 
-// The listing of an image, from a buffer's start on; its length.
+// The listing of an image, from a buffer's start on; its length. `Counts` follows from it, and is what `&text[..end]` asks for.
 fn print_to(text: &mut [u8; MOST_BYTES], image: &[u8]) -> usize
     ensures { λ r. ⌜ Prints text r image ⌝ }
     ensures { λ r. ⌜ Counts r (now (text .exit)) ⌝ }

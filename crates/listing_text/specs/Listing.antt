@@ -34,7 +34,7 @@ placesByName = 2 ∷ 1 ∷ 0 ∷ 8 ∷ 3 ∷ 4 ∷ 5 ∷ 6 ∷ 7 ∷ []
 abbrev pub lostAt : List Lost → ℕ → Lost
 lostAt lost place = getD lost place (record { count = 0; first = 0 })
 
--- .. and only of kinds that lost a block
+-- and only of kinds that lost a block; kinds count from 1, places from 0
 unfoldable pub lostKindLineOf : List Lost → ℕ → List (List ℕ)
 lostKindLineOf lost place = pick (eqb (lostAt lost place .count) 0) [] (lostKindLine (place + 1) (lostAt lost place .count) (lostAt lost place .first))
 

@@ -21,8 +21,9 @@ use report::Problem;
 use report::Report;
 ghost use mathlib.Core.Path.{_≡_};
 ghost use mathlib.Core.List.{flatMap};
-ghost use Prim.Native.Nat.{min};
-ghost use Rattle.report.specs.Report.{logged};
+ghost use Prim.Native.Nat.{_<_, min};
+ghost use lib.ListN.{getD};
+ghost use Rattle.report.specs.Report.{logged, kinds};
 ghost use Rattle.listing_text.specs.Listing.{named as Listing·named, problemLineOf, overlapLineOf, placesByName, lostKindLineOf, lostTotal, reportLines, answerLines};
 ghost use Rattle.listing_text.specs.contracts.Writing.{Puts};
 
@@ -97,12 +98,20 @@ fn lost_kind(out: &mut [u8], at: usize, lost: [Lost; KINDS], place: usize) -> us
     lost_kind_line(out, at, place as u64 + FIRST_KIND, l.count, l.first)
 }
 
+// The place of the kind whose name is the i-th.
+fn place_by_name(i: usize) -> usize
+    requires { ⌜ i < kinds ⌝ }
+    ensures { λ r. ⌜ r ≡ getD placesByName i 0 ⌝ }
+{
+    PLACES_BY_NAME[i]
+}
+
 fn lost_lines(out: &mut [u8], at: usize, lost: [Lost; KINDS]) -> usize
     ensures { λ r. ⌜ Puts out at r (flatMap (lostKindLineOf lost) placesByName) ⌝ }
 {
     let mut end = at;
     for i in 0..KINDS {
-        end = lost_kind(out, end, lost, PLACES_BY_NAME[i]);
+        end = lost_kind(out, end, lost, place_by_name(i));
     }
     end
 }

@@ -22,11 +22,8 @@ abbrev μ-loop : tie.MeasureT-loop
 loop-holds : tie.Need-loop-holds Inv-loop μ-loop
 loop-holds c = (search needs, refl, refl)
 
-mul-lost-kind : tie.Need-mul-lost-kind Inv-loop μ-loop
-mul-lost-kind c = search needs
-
-array-read-lost-kind : tie.Need-array-read-lost-kind Inv-loop μ-loop
-array-read-lost-kind c = search needs
+place-by-name-requires : tie.Need-place-by-name-requires Inv-loop μ-loop
+place-by-name-requires c κs = search needs
 
 lost-kind-requires : tie.Need-lost-kind-requires Inv-loop μ-loop
 lost-kind-requires c κs = search needs
@@ -42,7 +39,7 @@ unfolding placesByName
 loop-again c = (
   search needs,
   search needs,
-  each-more _ placesByName (c .before .before .before .before .before .loop .i) _ _ _ _ (omega arith) refl (c .before .before .lost-kind .ensures) ∙ c .before .before .before .before .before .loop .inv .2,
+  each-more _ placesByName (c .before .before .before .before .before .before .loop .i) _ 0 _ _ (omega arith) (c .before .before .before .place-by-name .ensures) (c .before .before .lost-kind .ensures) ∙ c .before .before .before .before .before .before .loop .inv .2,
 )
 
 same-length : tie.Need-same-length Inv-loop μ-loop
@@ -59,8 +56,7 @@ lost-lines-spec =
     Inv-loop
     μ-loop
     loop-holds
-    mul-lost-kind
-    array-read-lost-kind
+    place-by-name-requires
     lost-kind-requires
     add-i
     loop-less
