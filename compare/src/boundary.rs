@@ -1,16 +1,16 @@
-//! Images on either side of each added refusal's boundary, for the fixed list.
+//! Images on either side of the boundary of each rule that takes images outside, for the fixed list.
 //!
-//! Where the original isn't asked nothing shows that a refusal comes too early, but an image on its near side, on which
+//! Where the original isn't asked nothing shows that a rule is met too early, but an image on its near side, on which
 //! the original is asked.
 
 use space_check::Refusal;
 
 use crate::draft::Draft;
-use crate::fields::{manager, superblock};
+use crate::fields::{manager, mapped, superblock};
 use crate::image::Image;
 use crate::model::{HIGHEST_COUNT, WALK_LEVELS};
 use crate::outside::Outside;
-use crate::recipes::{area_to_end, chain_of, queue_entry, queue_ghost, repeats_of};
+use crate::recipes::{area_to_end, chain_of, deleted_of_lengths, first_mapping, queue_entry, queue_ghost, repeats_of};
 use crate::rng::Rng;
 use crate::seeds::Base;
 use crate::survey::Role;
@@ -24,6 +24,9 @@ pub struct Boundary {
     pub rule: Outside,
     near: Side,
     far: Side,
+    /// What refuses the near side, where it doesn't report. Counts have no near side that could: a container of one block has
+    /// no room for an object map, and one of 2^32 - 1 needs 16 TiB.
+    pub near_refusal: Option<Refusal>,
 }
 
 pub const BOUNDARIES: &[Boundary] = &[
@@ -32,85 +35,133 @@ pub const BOUNDARIES: &[Boundary] = &[
         rule: Outside::Added(Refusal::BlockCount),
         near: |d| count(d, 1),
         far: |d| count(d, 0),
+        near_refusal: Some(Refusal::NoCheckpoint),
     },
     Boundary {
         name: "highest count",
         rule: Outside::Added(Refusal::BlockCount),
         near: |d| count(d, HIGHEST_COUNT),
         far: |d| count(d, HIGHEST_COUNT + 1),
+        near_refusal: Some(Refusal::MissingBlocks),
     },
     Boundary {
         name: "image",
         rule: Outside::Added(Refusal::MissingBlocks),
         near: |d| image(d, 0),
         far: |d| image(d, 1),
+        near_refusal: None,
     },
-    Boundary { name: "map", rule: Outside::Added(Refusal::ShortMap), near: |d| map(d, 0), far: |d| map(d, 1) },
+    Boundary {
+        name: "map",
+        rule: Outside::Added(Refusal::ShortMap),
+        near: |d| map(d, 0),
+        far: |d| map(d, 1),
+        near_refusal: None,
+    },
     Boundary {
         name: "descriptor area",
         rule: Outside::Added(Refusal::DescriptorArea),
         near: |d| area_to_end(d, 0),
         far: |d| area_to_end(d, 1),
+        near_refusal: None,
     },
     Boundary {
         name: "lower count",
         rule: Outside::Added(Refusal::CountDiffers),
         near: |d| superblock_count(d, d.survey.count),
         far: |d| superblock_count(d, d.survey.count - 1),
+        near_refusal: None,
     },
     Boundary {
         name: "higher count",
         rule: Outside::Added(Refusal::CountDiffers),
         near: |d| superblock_count(d, d.survey.count),
         far: |d| superblock_count(d, d.survey.count + 1),
+        near_refusal: None,
     },
     Boundary {
         name: "taken count",
         rule: Outside::Added(Refusal::CountDiffers),
         near: |d| count_of_superblock(d, 1),
         far: |d| count_of_superblock(d, 0),
+        near_refusal: None,
     },
     Boundary {
         name: "address blocks",
         rule: Outside::Added(Refusal::AddressBlocks),
         near: |d| address_blocks(d, 0),
         far: |d| address_blocks(d, 1),
+        near_refusal: None,
     },
     Boundary {
         name: "queued block",
         rule: Outside::QueuedPastCount,
         near: |d| queued(d, d.survey.count - 1, 1),
         far: |d| queued(d, d.survey.count, 1),
+        near_refusal: None,
     },
     Boundary {
         name: "queued blocks",
         rule: Outside::QueuedPastCount,
         near: |d| queued(d, 1, d.survey.count - 1),
         far: |d| queued(d, 1, d.survey.count),
+        near_refusal: None,
     },
     Boundary {
         name: "queued nothing",
         rule: Outside::QueuedPastCount,
         near: |d| queued(d, d.survey.count, 0),
         far: |d| queued(d, d.survey.count + 1, 0),
+        near_refusal: None,
     },
     Boundary {
         name: "queued ghost",
         rule: Outside::QueuedPastCount,
         near: |d| queue_ghost(d, Role::PoolQueueNode, d.survey.count - 1),
         far: |d| queue_ghost(d, Role::PoolQueueNode, d.survey.count),
+        near_refusal: None,
     },
     Boundary {
         name: "nodes",
         rule: Outside::Added(Refusal::TooManyNodes),
         near: |d| repeats_of(d, 0),
         far: |d| repeats_of(d, 1),
+        near_refusal: None,
     },
     Boundary {
         name: "levels",
         rule: Outside::Added(Refusal::TooManyNodes),
         near: |d| chain_of(d, WALK_LEVELS),
         far: |d| chain_of(d, WALK_LEVELS + 1),
+        near_refusal: None,
+    },
+    Boundary {
+        name: "other flags",
+        rule: Outside::DeletedMapping,
+        near: |d| first_mapping(d, mapped::OTHERS, 0),
+        far: |d| first_mapping(d, mapped::OTHERS | mapped::DELETED, 0),
+        near_refusal: None,
+    },
+    Boundary {
+        name: "last block",
+        rule: Outside::DeletedMapping,
+        near: |d| first_mapping(d, 0, u64::MAX),
+        far: |d| first_mapping(d, mapped::DELETED, u64::MAX),
+        near_refusal: Some(Refusal::Overflow),
+    },
+    Boundary {
+        name: "key",
+        rule: Outside::DeletedMapping,
+        near: |d| deleted_of_lengths(d, mapped::SIZE - 1, mapped::SIZE),
+        far: |d| deleted_of_lengths(d, mapped::SIZE, mapped::SIZE),
+        near_refusal: Some(Refusal::OutsideBytes),
+    },
+    Boundary {
+        name: "value",
+        rule: Outside::DeletedMapping,
+        near: |d| deleted_of_lengths(d, mapped::SIZE, mapped::SIZE - 1),
+        far: |d| deleted_of_lengths(d, mapped::SIZE, mapped::SIZE),
+        near_refusal: Some(Refusal::OutsideBytes),
     },
 ];
 
@@ -123,7 +174,7 @@ impl Boundary {
     fn image(&self, base: &Base, side: &str, make: Side) -> Option<Image> {
         let mut draft = Draft { image: base.image(), survey: &base.survey, rng: &mut Rng::new(base.number) };
         let made = make(&mut draft)?;
-        draft.note(&format!("{side} side of {}, {}", self.rule.refusal().number(), self.name), &made);
+        draft.note(&format!("{side} side of {}, {}", self.rule.label(), self.name), &made);
         Some(draft.image)
     }
 }
@@ -178,14 +229,14 @@ mod tests {
     use crate::model::check;
 
     #[test]
-    fn a_refusal_is_given_on_its_far_side_alone() {
+    fn a_rule_is_met_on_its_far_side_alone() {
         for boundary in BOUNDARIES {
             let images = (0..500).find_map(|number| boundary.images(&Base::build(number)));
-            let refusals = images.expect("some container has a place for it").map(|image| {
+            let met = images.expect("some container has a place for it").map(|image| {
                 let pass = check(&image.bytes, &mut Fill::Listed.map(image.map_length));
                 pass.notes.outside == Some(boundary.rule)
             });
-            assert_eq!(refusals, [false, true], "{}", boundary.name);
+            assert_eq!(met, [false, true], "{}", boundary.name);
         }
     }
 }

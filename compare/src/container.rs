@@ -75,13 +75,14 @@ impl Build<'_> {
         object_map::TREE_TYPE.set(block, object::ROOT_NODE | object::PHYSICAL);
         object_map::ROOT.set(block, root);
         seal(block);
-        let size = (self.shape.block_size as u64) << 32;
-        let mut volumes = self.places.volumes.iter();
+        let mut volumes = self.places.volumes.clone().into_iter();
         let mut entries: Vec<Entry> = Vec::new();
         for i in 0..self.shape.mapping_entries() {
             let volume = if Shape::is_ghost(i) { None } else { volumes.next() };
-            let flags = if self.shape.deletes && self.rng.chance(50) { mapped::DELETED } else { 0 };
-            entries.push((bytes_of(&[VOLUME_ID + i, xid]), volume.map(|&address| bytes_of(&[size | flags, address]))));
+            entries.push(match volume {
+                Some(place) if self.shape.deletes && self.rng.chance(50) => self.deleted(i, place, entries.last()),
+                _ => (bytes_of(&[VOLUME_ID + i, xid]), volume.map(|place| self.live(place))),
+            });
         }
         let leaves = (0..self.shape.object_map.leaves())
             .map(|i| entries[(i * self.shape.mappings) as usize..][..self.shape.mappings as usize].to_vec())
@@ -96,6 +97,37 @@ impl Build<'_> {
             leaves,
         };
         tree.write(&mut self.image, self.shape.block_size, self.rng);
+    }
+
+    fn mapping_value(&self, flags: u64, address: u64) -> Vec<u8> {
+        bytes_of(&[(self.shape.block_size as u64) << 32 | flags, address])
+    }
+
+    /// Flags that mean nothing, in containers that have some.
+    fn other_flags(&mut self) -> u64 {
+        if self.shape.deletes && self.rng.chance(30) {
+            self.rng.number() & mapped::OTHERS
+        } else {
+            0
+        }
+    }
+
+    fn live(&mut self, place: u64) -> Vec<u8> {
+        let flags = self.other_flags();
+        self.mapping_value(flags, place)
+    }
+
+    /// Mapping `i`, deleted, which names any block: of an id of its own, an older one of the next mapping's id, or a newer
+    /// one of the id of the mapping before it. Keys rise in each case.
+    fn deleted(&mut self, i: u64, place: u64, before: Option<&Entry>) -> Entry {
+        let own = (VOLUME_ID + i, self.xid);
+        let newer = before.map_or(own, |(key, _)| (mapped::ID.of(key), mapped::XID.of(key) + 1));
+        let (id, xid) = *self.rng.pick(&[own, (own.0 + 1, own.1 - 1), newer]);
+        let far = *self.rng.pick(&[self.places.count, u64::MAX - 1, u64::MAX]);
+        let any = self.rng.below(self.places.count);
+        let address = *self.rng.pick(&[place, 0, self.places.object_map, any, far]);
+        let flags = self.other_flags() | mapped::DELETED;
+        (bytes_of(&[id, xid]), Some(self.mapping_value(flags, address)))
     }
 
     /// The pool's bitmap, the chunk-info blocks and the chunks' bitmaps.

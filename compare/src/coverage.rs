@@ -42,7 +42,7 @@ const CHAIN_LONG: &str = "a report after a map chain of more than 2^16 blocks";
 const MANAGER_REPEATS: &str = "a report with a manager longer than its ring";
 const LONGER_MAP: &str = "a report with a map longer than the count";
 const LONGER_MAP_REFUSED: &str = "a refusal from 12 on with a map longer than the count";
-// The near sides of the added refusals: one that came too early would leave such a row empty.
+// The near sides of the rules that take images outside: one that is met too early would leave such a row empty.
 const NEAR_4: &str = "near 4: a count of 2^32 - 1, refused by 5 and not by 4";
 const NEAR_5: &str = "near 5: a report on an image of exactly count x size bytes";
 const NEAR_6: &str = "near 6: a report with a map of exactly count bytes";
@@ -50,9 +50,16 @@ const NEAR_8: &str = "near 8: a report, the descriptor area ends at the count";
 const NEAR_21: &str = "near 21: a report, a pool-queue entry ends at the count";
 const NEAR_22_NODES: &str = "near 22: a report after a walk of as many nodes as blocks";
 const NEAR_22_LEVELS: &str = "near 22: a report after a walk of 33 levels";
+const NEAR_DELETED: &str = "near deleted: a report, a live mapping has other flags";
+// What a deleted mapping names, and a refusal after one.
+const DELETED_OWNED: &str = "a report, a deleted mapping names a block of another kind";
+const DELETED_UNOWNED: &str = "a report, a deleted mapping names an unowned block";
+const DELETED_PAST: &str = "a report, a deleted mapping names a block past the count";
+const DELETED_LAST: &str = "a report, a deleted mapping names block 2^64 - 1";
+const DELETED_REFUSED: &str = "a refusal after a deleted mapping";
 const DAMAGES: &str = "several damages";
 
-const FINDINGS: [&str; 20] = [
+const FINDINGS: [&str; 26] = [
     MANY_PROBLEMS,
     MANY_OVERLAPS,
     UNUSED,
@@ -72,11 +79,17 @@ const FINDINGS: [&str; 20] = [
     NEAR_21,
     NEAR_22_NODES,
     NEAR_22_LEVELS,
+    NEAR_DELETED,
+    DELETED_OWNED,
+    DELETED_UNOWNED,
+    DELETED_PAST,
+    DELETED_LAST,
+    DELETED_REFUSED,
     DAMAGES,
 ];
 
 /// The shapes that have to be met, as the survey names them.
-const SHAPES: [&str; 33] = [
+const SHAPES: [&str; 34] = [
     "block size 4096",
     "block size 8192",
     "block size 16384",
@@ -104,6 +117,7 @@ const SHAPES: [&str; 33] = [
     "object map of 3 level(s)",
     "object map with ghosts",
     "object map with deleted mappings",
+    "deleted mapping beside a live one of its id",
     "queue of 1 level(s)",
     "queue of 2 level(s)",
     "queue of 3 level(s)",
@@ -173,6 +187,7 @@ fn refusal_rows(refusal: Refusal, notes: &Notes) -> Vec<Row> {
     held(&[
         (LONGER_MAP_REFUSED, refusal > LAST_UNTOUCHED && !notes.map_exact),
         (NEAR_4, notes.count == HIGHEST_COUNT && refusal == Refusal::MissingBlocks),
+        (DELETED_REFUSED, notes.outside == Some(Outside::DeletedMapping)),
     ])
 }
 
@@ -190,6 +205,11 @@ fn noted_rows(notes: &Notes) -> Vec<Row> {
         (NEAR_21, notes.queued_to_count),
         (NEAR_22_NODES, notes.walked.nodes == notes.count),
         (NEAR_22_LEVELS, notes.walked.levels == WALK_LEVELS),
+        (NEAR_DELETED, notes.mappings.other_flags && notes.outside.is_none()),
+        (DELETED_OWNED, notes.mappings.deleted_owned),
+        (DELETED_UNOWNED, notes.mappings.deleted_unowned),
+        (DELETED_PAST, notes.mappings.deleted_past),
+        (DELETED_LAST, notes.mappings.deleted_last),
     ])
 }
 

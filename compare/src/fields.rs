@@ -257,8 +257,9 @@ pub mod mapped {
     pub const FLAGS: Field = Field { name: "mapped flags", at: 0, width: 4 };
     pub const ADDRESS: Field = Field { name: "mapped address", at: 8, width: 8 };
     pub const SIZE: usize = 16;
-    /// A deleted mapping claims its block all the same.
+    /// The flag of a deleted mapping, which holds no block; other flags mean nothing here.
     pub const DELETED: u64 = 1;
+    pub const OTHERS: u64 = 0xffff_fffe;
 }
 
 #[cfg(test)]

@@ -21,6 +21,7 @@ pub use blocks::Blocks;
 use blocks::{need, Step};
 pub use checkpoint::Taken;
 use claims::Claims;
+pub use claims::Mappings;
 use manager::Manager;
 pub use manager::Ring;
 pub use tree::{Layout, WALK_LEVELS};
@@ -29,7 +30,8 @@ use tree::{ObjectMap, Walked};
 /// The highest block count.
 pub const HIGHEST_COUNT: u64 = 0xffff_ffff;
 
-/// What a pass met: what costs the original more than an error, and how near it came to the added refusals.
+/// What a pass met: what costs the original more than an error, how near it came to the rules that take images outside, and
+/// what the mappings were.
 #[derive(Clone, Copy, Default)]
 pub struct Notes {
     /// The block count, once refusal 4 isn't given.
@@ -42,6 +44,7 @@ pub struct Notes {
     /// An entry of the pool queue ends at the count.
     pub queued_to_count: bool,
     pub walked: Walked,
+    pub mappings: Mappings,
     /// A superblock's map chain failed to load by an overflowing sum, on which the original panics.
     pub chain_sum_overflowed: bool,
     /// The length of a chain that came round its ring without an end: the original reads all its blocks.
@@ -135,9 +138,9 @@ fn pass(blocks: &Blocks, taken: &Taken, cells: &mut [u8], notes: &mut Notes) -> 
     audit.queue(blocks, taken, manager.field(m::POOL_QUEUE))?;
     let mut report = audit.report;
     report.pool_unused = pool.unused(cells)?;
-    let mut claims = Claims { cells, report: &mut report };
+    let mut claims = Claims { cells, report: &mut report, notes };
     claims.areas(taken.superblock, &manager)?;
-    notes.walked = claims.object_map(blocks, &objects)?;
+    claims.object_map(blocks, &objects)?;
     claims.queue(blocks, taken, manager.field(m::MAIN_QUEUE))?;
     report.xid = object::XID.of(taken.superblock);
     report.device_free = manager.field(m::FREE_COUNT);

@@ -4,13 +4,15 @@ use std::fmt;
 
 use space_check::Refusal;
 
-/// What an image meets that the original doesn't have.
+/// A rule that the original doesn't have, or has otherwise.
 #[derive(Clone, Copy, Debug, PartialEq, Eq, PartialOrd, Ord)]
 pub enum Outside {
     /// An added refusal.
     Added(Refusal),
     /// The last part of refusal 21, which alone is added: a pool-queue entry that passes the block count.
     QueuedPastCount,
+    /// A deleted mapping where the mappings are claimed: in the original it claims its block.
+    DeletedMapping,
 }
 
 /// Refusals that are added whole.
@@ -26,7 +28,7 @@ const ADDED: [Refusal; 7] = [
 
 impl Outside {
     pub fn all() -> Vec<Outside> {
-        ADDED.map(Outside::Added).into_iter().chain([Outside::QueuedPastCount]).collect()
+        ADDED.map(Outside::Added).into_iter().chain([Outside::QueuedPastCount, Outside::DeletedMapping]).collect()
     }
 
     /// The rule of a refusal that is added whole.
@@ -34,11 +36,12 @@ impl Outside {
         ADDED.contains(&refusal).then_some(Outside::Added(refusal))
     }
 
-    /// The refusal that is met.
-    pub fn refusal(self) -> Refusal {
+    /// Its short name: the number of the refusal that is met, where it is one.
+    pub fn label(self) -> String {
         match self {
-            Outside::Added(refusal) => refusal,
-            Outside::QueuedPastCount => Refusal::Overflow,
+            Outside::Added(refusal) => refusal.number().to_string(),
+            Outside::QueuedPastCount => Refusal::Overflow.number().to_string(),
+            Outside::DeletedMapping => "deleted".into(),
         }
     }
 }
@@ -48,8 +51,9 @@ impl fmt::Display for Outside {
         match self {
             Outside::Added(refusal) => write!(f, "refusal {}, {refusal:?}", refusal.number()),
             Outside::QueuedPastCount => {
-                write!(f, "refusal {}, a pool-queue entry past the count", self.refusal().number())
+                write!(f, "refusal {}, a pool-queue entry past the count", Refusal::Overflow.number())
             }
+            Outside::DeletedMapping => write!(f, "a deleted mapping"),
         }
     }
 }

@@ -4,10 +4,12 @@
 
 mod checkpoint;
 mod manager;
+mod mapping;
 mod tree;
 
 use crate::draft::Draft;
 pub use checkpoint::area_to_end;
+pub use mapping::{deleted_of_lengths, first_mapping};
 pub use tree::{chain_of, queue_entry, queue_ghost, repeats_of};
 
 /// Says what it made, or nothing where the container has no place for it.
@@ -24,6 +26,9 @@ pub const RECIPES: &[(&str, Recipe)] = &[
     ("key past the value end", tree::key_past_end),
     ("highest level", tree::highest_level),
     ("wide queue entry", tree::wide_entry),
+    ("mapping deleted", mapping::deleted),
+    ("deleted mapping cut short", mapping::deleted_short),
+    ("mapping with other flags", mapping::other_flags),
     ("superblock copied", checkpoint::copy_superblock),
     ("overflowing chain sum", checkpoint::overflowing_chain),
     ("ring of one", checkpoint::ring_of_one),

@@ -3,8 +3,6 @@
 use std::collections::{BTreeMap, BTreeSet};
 use std::io;
 
-use space_check::Refusal;
-
 use crate::boundary::{Boundary, BOUNDARIES};
 use crate::coverage::{rows, wanted, Row};
 use crate::fill::Fill;
@@ -147,17 +145,17 @@ impl List {
 }
 
 fn item_name(boundary: &Boundary) -> String {
-    format!("boundary-{}-{}", boundary.rule.refusal().number(), boundary.name.replace(' ', "-"))
+    format!("boundary-{}-{}", boundary.rule.label(), boundary.name.replace(' ', "-"))
 }
 
-/// The near side has an answer of the original, a report where there can be one, and the far side the refusal.
+/// The near side reports as the original does, or is refused as it has to be, and the far side meets the rule.
 fn shows(boundary: &Boundary, [near, far]: &[Judgement; 2]) -> bool {
-    let answered = match boundary.rule.refusal() {
-        // A container of one block has no room for an object map, and one of 2^32 - 1 needs 16 TiB.
-        Refusal::BlockCount => !matches!(near.pass.refusal(), None | Some(Refusal::BlockCount)),
-        _ => is_due(&near.pass) && matches!(near.original, Some(Reply::Answer(..))),
+    let meets = |judgement: &Judgement| judgement.pass.notes.outside == Some(boundary.rule);
+    let answered = match boundary.near_refusal {
+        Some(refusal) => near.pass.refusal() == Some(refusal) && !meets(near),
+        None => is_due(&near.pass) && matches!(near.original, Some(Reply::Answer(..))),
     };
-    answered && far.pass.notes.outside == Some(boundary.rule)
+    answered && meets(far)
 }
 
 /// The fixed list as text; an error where the original and the model part on one of its images.
@@ -186,7 +184,7 @@ pub fn make() -> io::Result<Result<String, String>> {
 mod tests {
     use super::*;
     use crate::list::parse;
-    use space_check::places;
+    use space_check::{places, Refusal};
 
     fn kept() -> Vec<Item> {
         parse(include_str!("../answers/list.txt")).expect("the list can be read")
@@ -208,8 +206,10 @@ mod tests {
         for boundary in BOUNDARIES {
             let name = item_name(boundary);
             let (near, far) = (find(format!("{name}-near")), find(format!("{name}-far")));
-            assert_eq!(far.answer[places::REFUSAL], boundary.rule.refusal().number(), "{name}");
-            assert!(boundary.rule.refusal() == Refusal::BlockCount || near.original == "report", "{name}");
+            // A rule that refuses is called by its number.
+            assert_eq!(far.answer[places::REFUSAL], boundary.rule.label().parse().unwrap_or(0), "{name}");
+            assert_eq!(near.answer[places::REFUSAL], boundary.near_refusal.map_or(0, Refusal::number), "{name}");
+            assert!(boundary.near_refusal.is_some() || near.original == "report", "{name}");
         }
     }
 }

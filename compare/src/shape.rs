@@ -35,7 +35,7 @@ pub struct Shape {
     pub object_map: TreeShape,
     /// Entries of each leaf of the object map's tree; every fourth is a ghost.
     pub mappings: u64,
-    /// Some of the mappings are deleted ones.
+    /// Some of the mappings are deleted ones, or have other flags.
     pub deletes: bool,
     pub pool_queue: Option<QueueShape>,
     pub main_queue: Option<QueueShape>,

@@ -197,13 +197,14 @@ impl Surveyor<'_> {
     fn tree(&mut self, role: Role, address: u64) -> Option<u64> {
         let bytes = self.blocks.raw(address).ok()?;
         let layout = Layout::of(bytes);
-        let NodeFields { mut fields, children } = NodeFields::of(role, bytes, &layout);
+        let NodeFields { mut fields, children, mappings } = NodeFields::of(role, bytes, &layout);
         if layout.is(node::ROOT) {
             fields.extend(description::ALL.iter().map(|f| f.shifted(layout.value_end)));
         }
         self.feature(layout.is(node::FIXED), "node of fixed sizes");
         self.feature(!layout.is(node::FIXED), "node of variable sizes");
         self.node_features(role, bytes, &fields);
+        self.mapping_features(&mappings);
         self.add(role, address, fields);
         let mut below = 0;
         for pointer in children {
@@ -220,20 +221,33 @@ impl Surveyor<'_> {
         let tree = if role == Role::ObjectMapNode { "object map" } else { "queue" };
         self.feature(ghost, format!("{tree} with ghosts"));
         self.feature(empty, "queue entry of count 0");
-        let deleted = fields.iter().any(|f| f.name == mapped::FLAGS.name && f.of(bytes) & mapped::DELETED != 0);
-        self.feature(deleted, "object map with deleted mappings");
+    }
+
+    fn mapping_features(&mut self, mappings: &[Mapping]) {
+        let mut deleted = mappings.iter().filter(|m| m.deleted).peekable();
+        self.feature(deleted.peek().is_some(), "object map with deleted mappings");
+        let beside = deleted.any(|m| mappings.iter().any(|other| other.id == m.id && !other.deleted));
+        self.feature(beside, "deleted mapping beside a live one of its id");
     }
 }
 
-/// The fields of a node, those in its keys and values too, and its child pointers.
+/// What a leaf of the object map says of a mapping.
+struct Mapping {
+    id: u64,
+    deleted: bool,
+}
+
+/// The fields of a node, those in its keys and values too, its child pointers, and its mappings.
 struct NodeFields {
     fields: Vec<Field>,
     children: Vec<u64>,
+    mappings: Vec<Mapping>,
 }
 
 impl NodeFields {
     fn of(role: Role, bytes: &[u8], layout: &Layout) -> Self {
-        let mut out = NodeFields { fields: [&[object::TYPE], node::ALL].concat(), children: Vec::new() };
+        let fields = [&[object::TYPE], node::ALL].concat();
+        let mut out = NodeFields { fields, children: Vec::new(), mappings: Vec::new() };
         let (slots, width) = layout.slot();
         for i in 0..layout.keys as usize {
             let slots: Vec<Field> = repeated(slots, layout.table, i, width).collect();
@@ -256,7 +270,12 @@ impl NodeFields {
             self.fields.push(pointer);
             self.children.push(pointer.of(bytes));
         } else if role == Role::ObjectMapNode {
-            self.fields.extend(value.into_iter().flat_map(|v| [mapped::FLAGS, mapped::ADDRESS].map(|f| f.shifted(v))));
+            let Some([flags, address]) = value.map(|v| [mapped::FLAGS, mapped::ADDRESS].map(|f| f.shifted(v))) else {
+                return;
+            };
+            self.fields.extend([flags, address]);
+            let (id, deleted) = (mapped::ID.shifted(key).of(bytes), flags.of(bytes) & mapped::DELETED != 0);
+            self.mappings.push(Mapping { id, deleted });
         } else {
             self.fields.push(queue::ADDRESS.shifted(key));
             self.fields.extend(value.map(|v| queue::COUNT.shifted(v)));

@@ -6,13 +6,28 @@ use super::audit::queued;
 use super::blocks::{field, sum, Blocks, Step};
 use super::checkpoint::Taken;
 use super::manager::{Manager, LENGTH_MASK};
-use super::tree::{scan_queue, ObjectMap, Walked};
+use super::tree::{scan_queue, ObjectMap};
+use super::Notes;
 use crate::answer::{Overlap, Report};
 use crate::fields::{manager as m, mapped, superblock as s};
+use crate::outside::Outside;
 
 pub struct Claims<'c> {
     pub cells: &'c mut [u8],
     pub report: &'c mut Report,
+    pub notes: &'c mut Notes,
+}
+
+/// What the mappings were that a pass met.
+#[derive(Clone, Copy, Default)]
+pub struct Mappings {
+    /// A deleted one names a block of another kind, an unowned one, one past the count, or the last number.
+    pub deleted_owned: bool,
+    pub deleted_unowned: bool,
+    pub deleted_past: bool,
+    pub deleted_last: bool,
+    /// A live one has other flags.
+    pub other_flags: bool,
 }
 
 impl Claims<'_> {
@@ -45,17 +60,36 @@ impl Claims<'_> {
         self.claim(manager.field(m::BITMAP_BASE), manager.field(m::BITMAP_RING), Kind::PoolBitmapRing)
     }
 
-    /// Claims 6 to 8: the object map, its nodes, and every mapping that is no ghost.
-    pub fn object_map(&mut self, blocks: &Blocks, objects: &ObjectMap) -> Step<Walked> {
+    /// Claims 6 to 8: the object map, its nodes, and every mapping that is neither a ghost nor deleted.
+    pub fn object_map(&mut self, blocks: &Blocks, objects: &ObjectMap) -> Step<()> {
         self.claim(objects.address, 1, Kind::ObjectMap)?;
-        let walked = objects.walk(blocks, &mut |address| self.claim(address, 1, Kind::ObjectMapNode))?;
+        self.notes.walked = objects.walk(blocks, &mut |address| self.claim(address, 1, Kind::ObjectMapNode))?;
         objects.scan(blocks, &mut |entry| {
             let Some(value) = entry.value else { return Ok(()) };
             field(entry.key, mapped::ID.at, mapped::ID.width)?;
             field(entry.key, mapped::XID.at, mapped::XID.width)?;
-            self.claim(field(value, mapped::ADDRESS.at, mapped::ADDRESS.width)?, 1, Kind::VolumeSuperblock)
-        })?;
-        Ok(walked)
+            let address = field(value, mapped::ADDRESS.at, mapped::ADDRESS.width)?;
+            let flags = mapped::FLAGS.of(value);
+            if flags & mapped::DELETED != 0 {
+                self.note_deleted(address);
+                return Ok(());
+            }
+            self.notes.mappings.other_flags |= flags != 0;
+            self.claim(address, 1, Kind::VolumeSuperblock)
+        })
+    }
+
+    fn note_deleted(&mut self, address: u64) {
+        self.notes.outside.get_or_insert(Outside::DeletedMapping);
+        let owner = self.cells.get(address as usize).map(|cell| cell & Cell::OWNER);
+        let met = &mut self.notes.mappings;
+        match owner {
+            None => met.deleted_past = true,
+            Some(0) => met.deleted_unowned = true,
+            Some(owner) if u64::from(owner) == Kind::VolumeSuperblock.number() => {}
+            Some(_) => met.deleted_owned = true,
+        }
+        met.deleted_last |= address == u64::MAX;
     }
 
     /// Claim 9.
@@ -73,8 +107,8 @@ mod tests {
 
     #[test]
     fn the_first_owner_keeps_a_block() {
-        let (mut cells, mut report) = ([0; 1], Report::default());
-        let mut claims = Claims { cells: &mut cells, report: &mut report };
+        let (mut cells, mut report, mut notes) = ([0; 1], Report::default(), Notes::default());
+        let mut claims = Claims { cells: &mut cells, report: &mut report, notes: &mut notes };
         for kind in [Kind::DataArea, Kind::DataArea, Kind::InternalPool, Kind::PoolBitmapRing] {
             claims.claim(0, 1, kind).unwrap();
         }
@@ -83,8 +117,8 @@ mod tests {
 
     #[test]
     fn a_claim_is_clipped_and_its_end_must_be_a_number() {
-        let (mut cells, mut report) = ([0; 2], Report::default());
-        let mut claims = Claims { cells: &mut cells, report: &mut report };
+        let (mut cells, mut report, mut notes) = ([0; 2], Report::default(), Notes::default());
+        let mut claims = Claims { cells: &mut cells, report: &mut report, notes: &mut notes };
         assert!(claims.claim(1, u64::MAX - 1, Kind::InternalPool).is_ok());
         assert!(claims.claim(2, u64::MAX - 1, Kind::InternalPool).is_err());
         assert_eq!(cells, [0, Kind::InternalPool.number() as u8]);

@@ -7,9 +7,12 @@ use native.Mathlib.Decide.{decLe}
 use native.Mathlib.Omega.{arith}
 use lib.Dec.{eqb}
 use lib.ListN.{getD}
-use Rattle.blocks.specs.Reads.{Reads, done, run, given, _>>=_}
+use Rattle.fields.specs.Choice.{choose}
+use Rattle.blocks.specs.Reads.{Reads, done, run, given, refused, _>>=_}
 use Rattle.blocks.specs.declared.Container.{Container}
+use Rattle.blocks.specs.declared.Refusal.{Refusal}
 use Rattle.blocks.proofs.Laws.{then-given, then-refused}
+use Rattle.nodes.specs.ObjectMap.{isDeleted}
 use Rattle.nodes.specs.contracts.Answers.{partIn, entryIn}
 use Rattle.nodes.specs.declared.Part.{Part}
 use Rattle.nodes.specs.declared.EntryPlace.{EntryPlace}
@@ -103,12 +106,26 @@ clipped kind start n count end next s p q = rw (← p) (go (decLe start end))
     go (yes h) = let same : next ≡ start = omega arith in rw same refl
     go (no h) = claim-done kind next s (end - next) (omega arith) ∙ sym (claim-done kind start s (end - start) (omega arith))
 
--- a mapping claims the address in its value
+-- a mapping that isn't deleted claims the address in its value
 module _ (c : Container) (s : Marked OverlapLog) (b : List ℕ) (e : EntryPlace) where
   pub mapping-ghost : e .value ≡ Ghost → (f : ℕ → List ℕ) → run f (claimMapping c s (entryIn b e)) ≡ given s
   unfolding run claimMapping claimMapped
   mapping-ghost g f = rw g refl
 
-  pub mapping-claim : (p : Part) → e .value ≡ At p → claimMapping c s (entryIn b e) ≡ mappedAddress (partIn b (e .key)) (partIn b p) >>= λ a. claim c volumeSuperblock a 1 s
-  unfolding claimMapping claimMapped
-  mapping-claim p at = rw at refl
+  module _ (p : Part) where
+    by-address : e .value ≡ At p
+        → claimMapping c s (entryIn b e) ≡ mappedAddress (partIn b (e .key)) (partIn b p) >>= λ a. choose (isDeleted (partIn b p)) (λ _. done s) (λ _. claim c volumeSuperblock a 1 s)
+    unfolding claimMapping claimMapped
+    by-address at = rw at refl
+
+    module _ (at : e .value ≡ At p) (f : ℕ → List ℕ) where
+      pub mapping-refused : (r : Refusal) → run f (mappedAddress (partIn b (e .key)) (partIn b p)) ≡ refused r → run f (claimMapping c s (entryIn b e)) ≡ refused r
+      mapping-refused r q = ap (run f) (by-address at) ∙ then-refused f _ _ r q
+
+      module _ (a : ℕ) (q : run f (mappedAddress (partIn b (e .key)) (partIn b p)) ≡ given a) where
+        pub mapping-deleted : isDeleted (partIn b p) ≡ true → run f (claimMapping c s (entryIn b e)) ≡ given s
+        unfolding run
+        mapping-deleted t = ap (run f) (by-address at) ∙ then-given f _ _ a q ∙ rw t refl
+
+        pub mapping-live : isDeleted (partIn b p) ≡ false → run f (claimMapping c s (entryIn b e)) ≡ run f (claim c volumeSuperblock a 1 s)
+        mapping-live t = ap (run f) (by-address at) ∙ then-given f _ _ a q ∙ rw t refl

@@ -13,6 +13,7 @@ use Rattle.blocks.specs.declared.Container.{Container}
 use Rattle.blocks.specs.declared.Refusal.{Refusal}
 use Rattle.blocks.proofs.Laws.{then-given, and-left, and-right}
 use Rattle.nodes.specs.Node.{Entry}
+use Rattle.nodes.specs.ObjectMap.{isDeleted}
 use Rattle.nodes.specs.contracts.Answers.{partIn, entryIn}
 use Rattle.nodes.specs.declared.EntryPlace.{EntryPlace}
 use Rattle.nodes.specs.declared.Part.{Part}
@@ -137,9 +138,14 @@ module _ (c : Container) (b : List ℕ) (place : EntryPlace) (map : List ℕ) wh
     unfolding unloggedMapped
     address-missing r q = rw at (rw q refl)
 
-    pub address-there : (a : ℕ) → run noBlocks (mappedAddress (partIn b (place .key)) (partIn b p)) ≡ given a → unloggedClaim c volumeSuperblock a 1 map ≡ unloggedMapping c (entryIn b place) map
-    unfolding unloggedMapped
-    address-there a q = rw at (rw q refl)
+    module _ (a : ℕ) (q : run noBlocks (mappedAddress (partIn b (place .key)) (partIn b p)) ≡ given a) where
+      pub deleted-alone : isDeleted (partIn b p) ≡ true → true ≡ unloggedMapping c (entryIn b place) map
+      unfolding unloggedMapped
+      deleted-alone t = rw at (rw q (rw t refl))
+
+      pub address-there : isDeleted (partIn b p) ≡ false → unloggedClaim c volumeSuperblock a 1 map ≡ unloggedMapping c (entryIn b place) map
+      unfolding unloggedMapped
+      address-there t = rw at (rw q (rw t refl))
 
 module _ (c : Container) (e : Entry) (map : List ℕ) where
   pub run-missing : (r : Refusal) → run noBlocks (runOf e) ≡ refused r → false ≡ unloggedQueued c e map

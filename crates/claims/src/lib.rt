@@ -6,6 +6,7 @@ use nodes::EntryPlace;
 use nodes::Part;
 use nodes::Value;
 use nodes::entries::field_in;
+use nodes::object_map::is_deleted;
 use queue::RunAnswer;
 use report::Cursor;
 use report::Ending;
@@ -210,7 +211,7 @@ pub(crate) fn mapped_address(node: &[u8], key: Part, value: Part) -> NumberAnswe
     field_in(node, value, ADDRESS)
 }
 
-// An entry of the object map: a ghost maps nothing.
+// An entry of the object map: a ghost maps nothing, and a deleted mapping holds no block.
 pub fn claim_mapping(
     map: &mut [u8],
     node: &[u8],
@@ -234,7 +235,13 @@ pub fn claim_mapping(
                     let ending = Ending::Refused(r);
                     Claimed { ending, log }
                 }
-                NumberAnswer::Given(a) => claim(map, container, VOLUME_SUPERBLOCK, a, 1, log),
+                NumberAnswer::Given(a) => {
+                    if is_deleted(node, p) {
+                        let ending = Ending::Done;
+                        return Claimed { ending, log };
+                    }
+                    claim(map, container, VOLUME_SUPERBLOCK, a, 1, log)
+                }
             }
         }
     }

@@ -7,6 +7,7 @@ use blocks::Container;
 use blocks::NumberAnswer;
 use nodes::EntryPlace;
 use nodes::Value;
+use nodes::object_map::is_deleted;
 use queue::RunAnswer;
 ghost use mathlib.Core.Path.{_≡_};
 ghost use Prim.Native.Nat.{_-_, _%_, _<_};
@@ -62,7 +63,7 @@ fn claim_unlogged(map: &mut [u8], container: Container, kind: u8, start: u64, le
     }
 }
 
-// A mapping's claim.
+// A mapping's claim; a deleted one claims nothing, so nothing is left to do.
 pub fn claim_mapping(map: &mut [u8], node: &[u8], container: Container, place: EntryPlace) -> bool
     ensures { λ r. ⌜ (let e = entryIn (bytes node) place in ClaimsUnlogged map container r (unloggedMapping container e) (claimingMapping container e)) ⌝ }
 {
@@ -74,7 +75,12 @@ pub fn claim_mapping(map: &mut [u8], node: &[u8], container: Container, place: E
             let got = mapped_address(node, key, p);
             match got {
                 NumberAnswer::Refused(_) => false,
-                NumberAnswer::Given(a) => claim_unlogged(map, container, VOLUME_SUPERBLOCK, a, 1),
+                NumberAnswer::Given(a) => {
+                    if is_deleted(node, p) {
+                        return true;
+                    }
+                    claim_unlogged(map, container, VOLUME_SUPERBLOCK, a, 1)
+                }
             }
         }
     }

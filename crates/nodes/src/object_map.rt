@@ -1,6 +1,7 @@
-// The object map: its header, and the root of its tree.
+// The object map: its header, the root of its tree, and what a mapping says of itself.
 use crate::Description;
 use crate::DescriptionAnswer;
+use crate::Part;
 use crate::node::describe;
 use crate::node::read_node;
 use blocks::Address;
@@ -15,8 +16,8 @@ ghost use Rattle.fields.specs.Fields.{bit};
 ghost use Rattle.blocks.specs.Reads.{run};
 ghost use Rattle.blocks.specs.contracts.Images.{bytes, blocksIn};
 ghost use Rattle.blocks.specs.contracts.Answers.{addressAs, Always};
-ghost use Rattle.nodes.specs.ObjectMap.{readObjectMap, describeMap, loadObjectMap};
-ghost use Rattle.nodes.specs.contracts.Answers.{descriptionAs};
+ghost use Rattle.nodes.specs.ObjectMap.{readObjectMap, describeMap, loadObjectMap, isDeleted};
+ghost use Rattle.nodes.specs.contracts.Answers.{descriptionAs, partIn};
 
 const OBJECT_MAP: u64 = 11;
 
@@ -34,6 +35,11 @@ const PHYSICAL: u64 = 1;
 const PHYSICAL_TREE: u64 = 4;
 
 const PAIR_SIZE: u64 = 16;
+
+// In a mapping's value: where its flags stand, and the bit of a deleted one.
+const MAPPING_FLAGS: usize = 0;
+
+const DELETED: u64 = 0;
 
 // The address of the tree's root.
 fn read_object_map(image: &[u8], container: Container, address: Address) -> AddressAnswer
@@ -103,4 +109,12 @@ pub fn load_object_map(image: &[u8], container: Container, address: Address) -> 
             }
         }
     }
+}
+
+// Whether a mapping was deleted, by the flags that its value begins with.
+pub fn is_deleted(node: &[u8], value: Part) -> bool
+    ensures { λ r. ⌜ r ≡ isDeleted (partIn (bytes node) value) ⌝ }
+{
+    let bytes = fields::part_of(node, value.at as usize, value.len as usize);
+    fields::has_bit(fields::u32_of(bytes, MAPPING_FLAGS), DELETED)
 }

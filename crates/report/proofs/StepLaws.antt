@@ -24,8 +24,11 @@ module _ {F : Type 0} {f : ℕ → List ℕ} {count : ℕ} {ending : Ending} {be
   pub stepped-refused : (r : Refusal) → ending ≡ Refused r → run f p ≡ refused r
   stepped-refused r e = sym (h .goes) ∙ ap (λ (s : Ending). outcomeOf s (record { map = after; figures = figures })) e
 
+  pub stepped-run : {q : Reads (Marked F)} → run f p ≡ run f q → Stepped f count ending before after figures q
+  stepped-run e = record { goes = h .goes ∙ e; kept = h .kept }
+
   pub stepped-is : {q : Reads (Marked F)} → p ≡ q → Stepped f count ending before after figures q
-  stepped-is e = record { goes = h .goes ∙ ap (run f) e; kept = h .kept }
+  stepped-is e = stepped-run (ap (run f) e)
 
   -- of a refused step the figures say nothing
   pub stepped-other : {G : Type 0} (r : Refusal) (found : G) (q : Reads (Marked G)) → ending ≡ Refused r → run f q ≡ refused r → Stepped f count (Refused r) before after found q
@@ -41,7 +44,7 @@ module _ {F : Type 0} {f : ℕ → List ℕ} {count : ℕ} {ending : Ending} {be
 
   -- a step after what leaves the map
   pub given-then : {A : Type 0} (q : Reads A) (k : A → Reads (Marked F)) (a : A) → run f q ≡ given a → run f p ≡ run f (k a) → Stepped f count ending before after figures (q >>= k)
-  given-then q k a e same = record { goes = h .goes ∙ same ∙ sym (then-given f q k a e); kept = h .kept }
+  given-then q k a e same = stepped-run (same ∙ sym (then-given f q k a e))
 
   -- a step to the next of what is left
   module _ (at : Cursor) (rest : Cursor → Marked F → Reads (Marked F)) (s : Marked F) (is : s .map ≡ before) (some : 0 < at .left) (fits : at .next + at .left < 2 ^ 64) where

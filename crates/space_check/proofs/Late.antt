@@ -19,7 +19,7 @@ use Rattle.blocks.specs.declared.Container.{Container}
 use Rattle.blocks.specs.declared.ObjectId.{ObjectId}
 use Rattle.blocks.specs.declared.Refusal.{Refusal}
 use Rattle.nodes.specs.Node.{Entry, isLeaf, isFixed, ghostOffset, parse, readNode, describe, fixedSlot, variableSlot, slot, valueOf, entry, pointer}
-use Rattle.nodes.specs.ObjectMap.{readObjectMap, describeMap, loadObjectMap}
+use Rattle.nodes.specs.ObjectMap.{readObjectMap, describeMap, loadObjectMap, isDeleted}
 use Rattle.nodes.specs.Scan.{lookAt, pointerPast, oneBelow, leafFrom, indexFrom, scanNode, below, scan}
 use Rattle.nodes.specs.Walk.{Walked, childrenFrom, nextNode, each, walkBelow, walk, childrenOf}
 use Rattle.nodes.specs.declared.Description.{Description}
@@ -458,7 +458,7 @@ late-mappedAddress key v = late-bind _ _ (late-field _ _ _) (λ x. late-bind _ _
 late-claimMapped : (c : Container) (s : Marked OverlapLog) (key : List ℕ) (v : Option (List ℕ)) → Late (claimMapped c s key v)
 unfolding claimMapped
 late-claimMapped c s key none = late-done _
-late-claimMapped c s key (some v) = late-bind _ _ (late-mappedAddress key v) (λ a. late-claim c _ _ _ s)
+late-claimMapped c s key (some v) = late-bind _ _ (late-mappedAddress key v) (λ a. late-choose (isDeleted v) _ _ (late-done _) (late-claim c _ _ _ s))
 
 late-claimMapping : (c : Container) (s : Marked OverlapLog) (e : Entry) → Late (claimMapping c s e)
 unfolding claimMapping

@@ -12,6 +12,7 @@ use Rattle.blocks.specs.Blocks.{sum}
 use Rattle.blocks.specs.contracts.Images.{Lent, bytes}
 use Rattle.blocks.specs.declared.Container.{Container}
 use Rattle.nodes.specs.Node.{Entry}
+use Rattle.nodes.specs.ObjectMap.{isDeleted}
 use Rattle.block_map.specs.BlockMap.{Marked, update, ownerOf, ownedBy}
 use Rattle.block_map.specs.contracts.Maps.{Unlogged}
 use Rattle.report.specs.declared.OverlapLog.{OverlapLog}
@@ -40,7 +41,7 @@ unloggedClaim c kind start len map = meets (run noBlocks (sum start len)) (λ n.
 
 unfoldable pub unloggedMapped : Container → List ℕ → Option (List ℕ) → List ℕ → Bool
 unloggedMapped c key none map = true
-unloggedMapped c key (some v) map = meets (run noBlocks (mappedAddress key v)) (λ a. unloggedClaim c volumeSuperblock a 1 map)
+unloggedMapped c key (some v) map = meets (run noBlocks (mappedAddress key v)) (λ a. isDeleted v || unloggedClaim c volumeSuperblock a 1 map)
 
 abbrev pub unloggedMapping : Container → Entry → List ℕ → Bool
 unloggedMapping c e map = unloggedMapped c (e .key) (e .value) map

@@ -1,10 +1,9 @@
 use mathlib.Core.Path.{sym, ap, _∙_}
-use Rattle.blocks.specs.Reads.{noBlocks, run}
-use Rattle.blocks.proofs.Laws.{then-given}
+use Rattle.blocks.specs.Reads.{noBlocks}
 use Rattle.blocks.specs.contracts.Answers.{numberAs}
-use Rattle.claims.proofs.Laws.{mapping-ghost, mapping-claim}
+use Rattle.claims.proofs.Laws.{mapping-ghost, mapping-deleted, mapping-live}
 use Rattle.block_map.proofs.Laws.{kept-same, not-made, was-made}
-use Rattle.claims.proofs.UnloggedLaws.{always-is, made-as, ghost-alone, address-missing, address-there}
+use Rattle.claims.proofs.UnloggedLaws.{always-is, made-as, ghost-alone, deleted-alone, address-missing, address-there}
 use borrow.Author.Needs.{needs}
 use Rattle.claims.proofs.unlogged.claim_mapping.Statement.{statement}
 use Rattle.claims.proofs.unlogged.claim_mapping.Tie as tie
@@ -24,31 +23,48 @@ enum-told-2 c = search needs
 enum-known-got : tie.Need-enum-known-got
 enum-known-got c = search needs
 
-claim-unlogged-requires : tie.Need-claim-unlogged-requires
-claim-unlogged-requires c κs = search needs
+is-deleted-requires : tie.Need-is-deleted-requires
+is-deleted-requires c κs = search needs
 
 returns : tie.Need-returns
 returns c =
-    let a = c .before .before .before .before .before .args in
-    (ghost-alone _ (a .node .now) (a .place) _ (c .enum-told .given .1), λ f. was-made (λ log. mapping-ghost _ _ (a .node .now) (a .place) (c .enum-told .given .1) f) (kept-same _ _))
-
-returns-2 : tie.Need-returns-2
-returns-2 c =
-    let a = c .before .before .before .before .before .before .before .before .before .args in
-    (address-missing _ (a .node .now) (a .place) _ _ (c .before .before .before .before .value .given .1) _ (sym (c .before .before .mapped-address .ensures noBlocks) ∙ ap numberAs (c .enum-told2 .given .1)), λ f. not-made)
-
-same-length : tie.Need-same-length
-same-length c = search needs
-
-returns-3 : tie.Need-returns-3
-returns-3 c =
-    let claimed = c .before .before in
-    let got = claimed .before .before .before in
+    let got = c .before .before .before in
     let mapped = got .before .before in
     let value = mapped .before .before in
     let a = value .before .before .before .before .before .args in
     let address = always-is _ _ (mapped .mapped-address .ensures) _ (ap numberAs (got .got .given .1)) in
-    (claimed .claim-unlogged .ensures .0 ∙ address-there _ (a .node .now) (a .place) _ _ (value .value .given .1) _ (address noBlocks), λ f. made-as (claimed .claim-unlogged .ensures .1 f) (λ log. ap (run f) (mapping-claim _ _ (a .node .now) (a .place) _ (value .value .given .1)) ∙ then-given f _ _ _ (address f)))
+    let deleted = sym (c .before .is-deleted .ensures) ∙ c .if1 .taken in
+    (deleted-alone _ (a .node .now) (a .place) _ _ (value .value .given .1) _ (address noBlocks) deleted, λ f. was-made (λ log. mapping-deleted _ _ (a .node .now) (a .place) _ (value .value .given .1) f _ (address f) deleted) (kept-same _ _))
+
+claim-unlogged-requires : tie.Need-claim-unlogged-requires
+claim-unlogged-requires c κs = search needs
+
+returns-2 : tie.Need-returns-2
+returns-2 c =
+    let a = c .before .before .before .before .before .args in
+    (ghost-alone _ (a .node .now) (a .place) _ (c .enum-told .given .1), λ f. was-made (λ log. mapping-ghost _ _ (a .node .now) (a .place) (c .enum-told .given .1) f) (kept-same _ _))
+
+returns-3 : tie.Need-returns-3
+returns-3 c =
+    let mapped = c .before .before in
+    let value = mapped .before .before in
+    let a = value .before .before .before .before .before .args in
+    (address-missing _ (a .node .now) (a .place) _ _ (value .value .given .1) _ (sym (mapped .mapped-address .ensures noBlocks) ∙ ap numberAs (c .enum-told2 .given .1)), λ f. not-made)
+
+same-length : tie.Need-same-length
+same-length c = search needs
+
+returns-4 : tie.Need-returns-4
+returns-4 c =
+    let claimed = c .before .before in
+    let live = claimed .before .before in
+    let got = live .before .before .before in
+    let mapped = got .before .before in
+    let value = mapped .before .before in
+    let a = value .before .before .before .before .before .args in
+    let address = always-is _ _ (mapped .mapped-address .ensures) _ (ap numberAs (got .got .given .1)) in
+    let alive = sym (live .before .is-deleted .ensures) ∙ live .if1 .left in
+    (claimed .claim-unlogged .ensures .0 ∙ address-there _ (a .node .now) (a .place) _ _ (value .value .given .1) _ (address noBlocks) alive, λ f. made-as (claimed .claim-unlogged .ensures .1 f) (λ log. mapping-live _ _ (a .node .now) (a .place) _ (value .value .given .1) f _ (address f) alive))
 
 pub claim-mapping-spec : {M : Type 1} → statement M
 claim-mapping-spec =
@@ -59,8 +75,10 @@ claim-mapping-spec =
     mapped-address-requires
     enum-told-2
     enum-known-got
-    claim-unlogged-requires
+    is-deleted-requires
     returns
+    claim-unlogged-requires
     returns-2
+    returns-3
     same-length
-    returns-3)
+    returns-4)
