@@ -47,4 +47,9 @@ def kinds():
 
 def problems():
     """What the listing says of each problem, by its number, with {} for the block."""
-    return {number: text.strip().replace('0x@', '{}') for number, text in listed('problemFormats').items()}
+    lines = read_text('crates', 'listing_text', 'specs', 'Lines.antt')
+    later = re.search(r'ascii "( *problem # at 0x@)\\n"', lines)[1]
+    # the only numbers that the file names are problems'
+    numbers = re.findall(r'^abbrev pub \w+ : ℕ\n\w+ = (\d+)$', read_text('crates', 'audit', 'specs', 'Audit.antt'), re.MULTILINE)
+    formats = {int(number): later.replace('#', number) for number in numbers} | listed('problemFormats')
+    return {number: text.strip().replace('0x@', '{}') for number, text in formats.items()}

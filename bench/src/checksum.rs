@@ -30,7 +30,8 @@ pub fn rows() -> Result<Vec<Row>, String> {
     println!("{}", compare(&mut rng)?);
     let row = |length| {
         let (proved, original) = best(&object(length, &mut rng));
-        Row { what: format!("checksum of {length} bytes"), pages: None, proved, original, bar: Some(BAR) }
+        let what = format!("checksum of {length} bytes");
+        Row { what, pages: None, proved, original: Some(original), bar: Some(BAR) }
     };
     Ok(LENGTHS.into_iter().map(row).collect())
 }

@@ -19,29 +19,38 @@ use container::{Measured, Subject, BLOCK};
 use memory::{Mapping, Pages};
 use scratch::Scratch;
 use synthetic::Form;
+use table::Growth;
 
-const USAGE: &str = "usage: bench [checksum] [mkapfs] [dense]    measure, all three if none is named
-       bench write GIBIBYTES FILE               only write a dense container
-       bench pass FILE RUNS                     only run the proved pass, for a profiler";
+const USAGE: &str = "usage: bench [checksum] [mkapfs] [dense] [large]    measure, all four if none is named
+       bench write dense GIBIBYTES FILE                 only write a dense container
+       bench write large TEBIBYTES FILE                 only write a large one, with address blocks from 4 TiB on
+       bench pass FILE RUNS                             only run the proved pass, for a profiler";
 
-/// Blocks in a gibibyte.
+const PARTS: [&str; 4] = ["checksum", "mkapfs", "dense", "large"];
+
+/// Blocks in a gibibyte and in a tebibyte.
 const GIBIBYTE: u64 = (1 << 30) / BLOCK as u64;
+const TEBIBYTE: u64 = 1024 * GIBIBYTE;
 /// The container of 2 TiB, and the largest whose pool's bitmap every mkapfs writes whole: 10,836 chunks.
-const MKAPFS_BLOCKS: [u64; 2] = [2048 * GIBIBYTE, 10_836 * 8 * BLOCK as u64];
+const MKAPFS_BLOCKS: [u64; 2] = [2 * TEBIBYTE, 10_836 * 8 * BLOCK as u64];
 const MKAPFS_BAR: f64 = 6.0;
 const MKAPFS_RUNS: usize = 5;
 /// Dense containers; the last is the one with a bar.
 const DENSE_GIBIBYTES: [u64; 3] = [16, 32, 64];
 const DENSE_BAR: f64 = 4.0;
 const DENSE_RUNS: usize = 30;
+/// Large containers, with address blocks; the second is twice the first, to show how the time grows.
+const LARGE_TEBIBYTES: [u64; 2] = [4, 8];
+const LARGE_RUNS: usize = 5;
 
 fn main() -> ExitCode {
     let arguments: Vec<String> = std::env::args().skip(1).collect();
     let arguments: Vec<&str> = arguments.iter().map(String::as_str).collect();
     let ended = match arguments[..] {
-        ["write", gibibytes, file] => write(gibibytes, file),
+        ["write", "dense", gibibytes, file] => write(dense_form, gibibytes, file),
+        ["write", "large", tebibytes, file] => write(large_form, tebibytes, file),
         ["pass", file, runs] => pass(file, runs),
-        ref parts if parts.iter().all(|part| ["checksum", "mkapfs", "dense"].contains(part)) => measure(parts),
+        ref parts if parts.iter().all(|part| PARTS.contains(part)) => measure(parts),
         _ => Err(USAGE.into()),
     };
     match ended {
@@ -66,7 +75,13 @@ fn measure(parts: &[&str]) -> Result<(), String> {
     if wanted("dense") {
         dense(&mut measured)?;
     }
+    if wanted("large") {
+        large(&mut measured)?;
+    }
     table::print_times(&measured.times);
+    if !measured.growth.is_empty() {
+        table::print_growth(&measured.growth);
+    }
     if !measured.memory.is_empty() {
         table::print_memory(&measured.memory);
     }
@@ -80,11 +95,11 @@ fn real(measured: &mut Measured) -> Result<(), String> {
     };
     for (blocks, bar) in MKAPFS_BLOCKS.into_iter().zip([Some(MKAPFS_BAR), None]) {
         let (scratch, completed) = mkapfs::make(&program, blocks).map_err(|e| e.to_string())?;
-        let what = format!("mkapfs, {:.2} TiB", blocks as f64 / (1024 * GIBIBYTE) as f64);
+        let what = format!("mkapfs, {:.2} TiB", blocks as f64 / TEBIBYTE as f64);
         if completed {
             println!("{what}: the pool's bitmap was a block short, and is completed");
         }
-        measured.add(Subject { what, runs: MKAPFS_RUNS, bar }, &scratch.file)?;
+        measured.add(Subject { what, runs: MKAPFS_RUNS, bar, misread: false }, &scratch.file)?;
     }
     Ok(())
 }
@@ -92,24 +107,52 @@ fn real(measured: &mut Measured) -> Result<(), String> {
 fn dense(measured: &mut Measured) -> Result<(), String> {
     for gibibytes in DENSE_GIBIBYTES {
         let form = dense_form(gibibytes);
-        let scratch = Scratch::new(&format!("dense-{gibibytes}"), 0).map_err(|e| e.to_string())?;
-        synthetic::write(&scratch.file, form).map_err(|e| e.to_string())?;
+        let scratch = made(&format!("dense-{gibibytes}"), form)?;
         let bar = (DENSE_GIBIBYTES.last() == Some(&gibibytes)).then_some(DENSE_BAR);
         let what = format!("dense, {gibibytes} GiB, {} queued", 2 * form.queued);
-        measured.add(Subject { what, runs: DENSE_RUNS, bar }, &scratch.file)?;
+        measured.add(Subject { what, runs: DENSE_RUNS, bar, misread: false }, &scratch.file)?;
+    }
+    Ok(())
+}
+
+fn large(measured: &mut Measured) -> Result<(), String> {
+    let first = measured.times.len();
+    for tebibytes in LARGE_TEBIBYTES {
+        let scratch = made(&format!("large-{tebibytes}"), large_form(tebibytes))?;
+        let what = format!("large, {tebibytes} TiB, address blocks");
+        measured.add(Subject { what, runs: LARGE_RUNS, bar: None, misread: true }, &scratch.file)?;
+    }
+    let rows = &measured.times[first..];
+    let (halves, wholes) = rows.split_at(rows.len() / 2);
+    for (half, whole) in halves.iter().zip(wholes) {
+        let ratio = whole.proved / half.proved;
+        measured.growth.push(Growth { what: whole.what.clone(), pages: whole.pages, ratio });
     }
     Ok(())
 }
 
 /// The queues grow with the container, to 100,000 entries each at 64 GiB.
 fn dense_form(gibibytes: u64) -> Form {
-    Form { blocks: gibibytes * GIBIBYTE, queued: gibibytes * 100_000 / 64, mapped: 20_000, seed: 1 }
+    let blocks = gibibytes * GIBIBYTE;
+    Form { blocks, bitmap_every: 1, queued: gibibytes * 100_000 / 64, mapped: 20_000, seed: 1 }
 }
 
-fn write(gibibytes: &str, file: &str) -> Result<(), String> {
-    let gibibytes = gibibytes.parse().map_err(|_| USAGE)?;
+/// Bitmaps are so few that most of the map's pages stay untouched; the queues fit the first chunk.
+fn large_form(tebibytes: u64) -> Form {
+    let blocks = tebibytes * TEBIBYTE;
+    Form { blocks, bitmap_every: 1024, queued: tebibytes * 250, mapped: 20_000, seed: 1 }
+}
+
+fn made(name: &str, form: Form) -> Result<Scratch, String> {
+    let scratch = Scratch::new(name, form.blocks * BLOCK as u64).map_err(|e| e.to_string())?;
+    synthetic::write(&scratch.file, form).map_err(|e| e.to_string())?;
+    Ok(scratch)
+}
+
+fn write(form: fn(u64) -> Form, size: &str, file: &str) -> Result<(), String> {
+    let form = form(size.parse().map_err(|_| USAGE)?);
     let file = File::create_new(file).map_err(|e| format!("{file}: {e}"))?;
-    synthetic::write(&file, dense_form(gibibytes)).map_err(|e| e.to_string())
+    synthetic::write(&file, form).map_err(|e| e.to_string())
 }
 
 fn pass(file: &str, runs: &str) -> Result<(), String> {
@@ -121,4 +164,17 @@ fn pass(file: &str, runs: &str) -> Result<(), String> {
         println!("{seconds:.4} s");
     }
     Ok(())
+}
+
+#[cfg(test)]
+mod tests {
+    use super::*;
+
+    #[test]
+    fn large_containers_have_address_blocks() {
+        let parts = |form: Form| (form.blocks, form.chunks(), form.infos(), form.address_blocks());
+        assert_eq!(parts(large_form(4)), (1 << 30, 32_768, 261, 1));
+        assert_eq!(parts(large_form(8)), (1 << 31, 65_536, 521, 2));
+        assert_eq!(dense_form(64).address_blocks(), 0);
+    }
 }

@@ -27,6 +27,13 @@ pub struct Proved {
     pub resident: u64,
 }
 
+impl Proved {
+    /// Blocks with a mark or an owner in the map.
+    pub fn noted(&self) -> u64 {
+        self.map.bytes().iter().filter(|byte| **byte != 0).count() as u64
+    }
+}
+
 pub fn proved(image: &[u8], blocks: usize, pages: Pages) -> io::Result<Proved> {
     let before = resident()?;
     let mut map = Mapping::zeroed(blocks, pages)?;

@@ -1,6 +1,7 @@
-//! A synthetic container in a sparse file, from a seed alone: dense bitmaps, an object map of three levels, long queues.
-//! It is consistent: whatever is claimed is marked, and nothing is claimed twice.
+//! A synthetic container in a sparse file, from a seed alone: dense bitmaps, an object map of three levels, long queues,
+//! and address blocks where it is large. It is consistent: whatever is claimed is marked, and nothing is claimed twice.
 
+mod address_blocks;
 mod bitmaps;
 mod checkpoint;
 mod manager;
@@ -15,7 +16,7 @@ use std::os::unix::fs::FileExt;
 use compare::rng::Rng;
 
 use crate::container::BLOCK;
-use bitmaps::{Bits, Chunks};
+use bitmaps::{Bits, Chunks, RECORDS};
 use queues::{MAIN_SLOT, POOL_SLOT};
 
 const XID: u64 = 1000;
@@ -26,6 +27,8 @@ const QUEUE_ID: u64 = 0x1_0000;
 #[derive(Clone, Copy)]
 pub struct Form {
     pub blocks: u64,
+    /// One chunk in so many has a bitmap, the first one among them; the others are free.
+    pub bitmap_every: u64,
     /// Entries of each of the two queues.
     pub queued: u64,
     /// Mappings of the object map.
@@ -39,8 +42,30 @@ impl Form {
         trees::nodes(self.queued)
     }
 
+    pub fn chunks(&self) -> u64 {
+        Bits::blocks(self.blocks)
+    }
+
+    fn bitmaps(&self) -> u64 {
+        self.chunks().div_ceil(self.bitmap_every)
+    }
+
+    /// Chunk-info blocks.
+    pub fn infos(&self) -> u64 {
+        self.chunks().div_ceil(RECORDS as u64)
+    }
+
+    pub fn address_blocks(&self) -> u64 {
+        address_blocks::count(self.infos())
+    }
+
+    /// Pool blocks that the bitmaps and their lists take; behind them is the queue's part.
+    fn own_blocks(&self) -> u64 {
+        self.bitmaps() + self.infos() + self.address_blocks()
+    }
+
     fn pool_blocks(&self) -> u64 {
-        Chunks::own_blocks(self.blocks) + POOL_SLOT * self.queued
+        self.own_blocks() + POOL_SLOT * self.queued
     }
 }
 
@@ -49,7 +74,10 @@ struct Places {
     descriptors: u64,
     data: u64,
     bitmap_ring: u64,
+    /// The pool, and the chunks' bitmaps.
     pool: u64,
+    infos: u64,
+    address_blocks: u64,
     object_map: u64,
     nodes: u64,
     end: u64,
@@ -62,10 +90,12 @@ impl Places {
         let data = descriptors + 2 * (checkpoint::map_blocks(form) + 1);
         let bitmap_ring = data + 2 * (1 + 2 * form.queue_nodes());
         let pool = bitmap_ring + 2 * Bits::blocks(form.pool_blocks());
+        let infos = pool + form.bitmaps();
+        let address_blocks = infos + form.infos();
         let object_map = pool + form.pool_blocks();
         let nodes = object_map + 1;
         let end = nodes + trees::nodes(form.mapped);
-        Places { descriptors, data, bitmap_ring, pool, object_map, nodes, end }
+        Places { descriptors, data, bitmap_ring, pool, infos, address_blocks, object_map, nodes, end }
     }
 }
 
@@ -80,7 +110,7 @@ struct Build<'a> {
 pub fn write(file: &File, form: Form) -> io::Result<()> {
     file.set_len(form.blocks * BLOCK as u64)?;
     let mut build = Build { file, form, places: Places::of(&form), rng: Rng::new(form.seed) };
-    let mut chunks = Chunks::choose(form.blocks, &mut build.rng);
+    let mut chunks = Chunks::choose(&form, &mut build.rng);
     let mut slots = chunks.dense_slots(build.places.end, MAIN_SLOT);
     if (slots.len() as u64) < form.queued + form.mapped {
         return Err(io::Error::other("the container is too small for its queues and mappings"));
@@ -101,11 +131,13 @@ impl Build<'_> {
         self.file.write_all_at(bytes, address * BLOCK as u64)
     }
 
-    /// Chunk bitmaps from the pool's start on, and behind them the blocks that list them.
+    /// Chunk bitmaps from the pool's start on, behind them the blocks that list them, and the address blocks if any.
     fn chunks(&self, chunks: &Chunks) -> io::Result<()> {
-        let first = self.places.pool;
-        let infos = chunks.info_blocks(first);
-        for (address, block) in (first..).zip(chunks.bitmaps().chain(infos.iter().map(Vec::as_slice))) {
+        let places = &self.places;
+        let infos = chunks.info_blocks(places.pool);
+        let address_blocks = address_blocks::blocks(places.infos..places.address_blocks);
+        let lists: Vec<Vec<u8>> = infos.into_iter().chain(address_blocks).collect();
+        for (address, block) in (places.pool..).zip(chunks.bitmaps().chain(lists.iter().map(Vec::as_slice))) {
             self.put(address, block)?;
         }
         Ok(())

@@ -1,4 +1,4 @@
-//! The two tables that are printed: times, and resident memory.
+//! The tables that are printed: times, their growth, and resident memory.
 
 use crate::memory::Pages;
 
@@ -8,7 +8,8 @@ pub struct Row {
     /// The pages of the proved pass's map, where it has one.
     pub pages: Option<Pages>,
     pub proved: f64,
-    pub original: f64,
+    /// None where the original misreads the container.
+    pub original: Option<f64>,
     pub bar: Option<f64>,
 }
 
@@ -16,11 +17,32 @@ pub fn print_times(rows: &[Row]) {
     println!("\nseconds of a processor, the best of the runs; a ratio above 1 says that the proved code is faster");
     println!("{:<30} {:>10} {:>10} {:>10} {:>7}  bar", "what", "map pages", "proved", "original", "ratio");
     for row in rows {
-        let ratio = row.original / row.proved;
         let pages = row.pages.map_or("", Pages::name);
-        let (proved, original) = (seconds(row.proved), seconds(row.original));
-        let bar = row.bar.map_or(String::new(), |bar| format!("{bar} {}", met(ratio >= bar)));
-        println!("{:<30} {pages:>10} {proved:>10} {original:>10} {ratio:>7.2}  {bar}", row.what);
+        let (proved, original) = (seconds(row.proved), row.original.map_or("misread".into(), seconds));
+        let ratio = row.original.map(|original| original / row.proved);
+        let bar = ratio.zip(row.bar).map_or(String::new(), |(ratio, bar)| format!("{bar} {}", met(ratio >= bar)));
+        let ratio = ratio.map_or(String::new(), |ratio| format!("{ratio:.2}"));
+        println!("{:<30} {pages:>10} {proved:>10} {original:>10} {ratio:>7}  {bar}", row.what);
+    }
+}
+
+/// How the proved time grows with the container.
+pub struct Growth {
+    pub what: String,
+    pub pages: Option<Pages>,
+    /// This container's time beside that of one of half its size.
+    pub ratio: f64,
+}
+
+/// Linear growth is 2, and measuring adds to it; the square would be 4.
+const GROWTH_BAR: f64 = 2.2;
+
+pub fn print_growth(rows: &[Growth]) {
+    println!("\nproved time beside that of a container of half the size; the bar: at most {GROWTH_BAR}");
+    println!("{:<30} {:>10} {:>7}  bar", "what", "map pages", "ratio");
+    for row in rows {
+        let (pages, said) = (row.pages.map_or("", Pages::name), met(row.ratio <= GROWTH_BAR));
+        println!("{:<30} {pages:>10} {:>7.2}  {GROWTH_BAR} {said}", row.what, row.ratio);
     }
 }
 

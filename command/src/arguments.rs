@@ -5,8 +5,8 @@ use std::path::PathBuf;
 use clap::error::ErrorKind;
 use clap::{value_parser, Arg, CommandFactory, FromArgMatches, Parser};
 use clap_complete::{generate, Shell};
-use space_check::Refusal;
 
+use crate::explain;
 use crate::output;
 use crate::status::Status;
 
@@ -53,8 +53,8 @@ pub struct Arguments {
     pub quiet: bool,
 
     /// Tell what refusal N means and what to do next
-    #[arg(long, value_name = "N", value_parser = refusal, exclusive = true)]
-    explain: Option<Refusal>,
+    #[arg(long, value_name = "N", value_parser = explanation, exclusive = true)]
+    explain: Option<String>,
 
     /// Print the completions for a shell
     #[arg(long, value_name = "SHELL", exclusive = true)]
@@ -68,7 +68,7 @@ pub struct Arguments {
 /// What a command line asks for.
 pub enum Task<'a> {
     Check(&'a [PathBuf]),
-    Explain(Refusal),
+    Explain(&'a str),
     Complete(Shell),
 }
 
@@ -87,8 +87,8 @@ impl Arguments {
     }
 
     pub fn task(&self) -> Task<'_> {
-        match (self.explain, self.completions) {
-            (Some(refusal), _) => Task::Explain(refusal),
+        match (&self.explain, self.completions) {
+            (Some(sentence), _) => Task::Explain(sentence),
             (None, Some(shell)) => Task::Complete(shell),
             (None, None) => Task::Check(&self.images),
         }
@@ -100,8 +100,9 @@ impl Arguments {
     }
 }
 
-fn refusal(number: &str) -> Result<Refusal, String> {
-    number.parse().ok().and_then(Refusal::from_number).ok_or_else(|| "no refusal has this number".into())
+/// The sentence that is asked for by a number.
+fn explanation(number: &str) -> Result<String, String> {
+    number.parse().ok().and_then(explain::explanation).ok_or_else(|| "no refusal has this number".into())
 }
 
 /// Prints help, version or what is wrong. A wrong command line must not pass for a refused disk, as clap's own 2 would.

@@ -9,6 +9,11 @@ const BEYOND: &str =
     "the disk may be sound, which this check cannot tell, so set it aside and have it judged by Apple's \
      fsck_apfs, on a Mac";
 
+/// A refusal of earlier versions, which logs may still hold.
+const WITHDRAWN: u64 = 19;
+const WITHDRAWN_MEANING: &str = "no longer given since version 0.2.0, which follows the address blocks of large disks";
+const WITHDRAWN_ADVICE: &str = "check the disk again with this version";
+
 /// What to do next.
 pub fn advice(refusal: Refusal) -> &'static str {
     match refusal {
@@ -26,12 +31,24 @@ pub fn advice(refusal: Refusal) -> &'static str {
              or --partition names a wrong place"
         }
         Refusal::ShortMap => "this command always lends one that is long enough, so report a fault of the program",
-        Refusal::DescriptorLength | Refusal::Incompatible | Refusal::AddressBlocks => BEYOND,
+        Refusal::DescriptorLength | Refusal::Incompatible => BEYOND,
         _ => DAMAGED,
     }
 }
 
 /// Meaning and advice.
 pub fn sentence(refusal: Refusal) -> String {
-    format!("refused {}: {refusal}; {}", refusal.number(), advice(refusal))
+    worded(refusal.number(), refusal.name(), advice(refusal))
+}
+
+/// Those of a number, where a refusal has it or had it.
+pub fn explanation(number: u64) -> Option<String> {
+    match number {
+        WITHDRAWN => Some(worded(number, WITHDRAWN_MEANING, WITHDRAWN_ADVICE)),
+        _ => Refusal::from_number(number).map(sentence),
+    }
+}
+
+fn worded(number: u64, meaning: &str, advice: &str) -> String {
+    format!("refused {number}: {meaning}; {advice}")
 }

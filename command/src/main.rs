@@ -24,7 +24,7 @@ use status::Status;
 fn main() -> ExitCode {
     let status = match Arguments::read() {
         Ok(arguments) => match arguments.task() {
-            Task::Explain(refusal) => output::print(format!("{}\n", explain::sentence(refusal)), Status::DONE),
+            Task::Explain(sentence) => output::print(format!("{sentence}\n"), Status::DONE),
             Task::Complete(shell) => arguments::complete(shell),
             Task::Check(images) => check(&arguments, images),
         },

@@ -46,6 +46,8 @@ def lost_and_leaked():
 KINDS = definition.kinds()
 PROBLEMS = definition.problems()
 REFUSALS = definition.refusals()
+# "Refusal 19 is never given again" (document 02)
+WITHDRAWN = {19}
 # so many problems, and so many overlaps, are named in a report
 LOGGED = (PLACES['FREE'] - PLACES['PROBLEM']) // 2
 
@@ -70,6 +72,7 @@ def known(path=os.path.join(ROOT, 'compare', 'answers', 'list.txt')):
 
 
 OPERATORS_PAGE = definition.read_text('docs', 'OPERATOR.md')
+CHANGES_PAGE = definition.read_text('docs', 'CHANGES.md')
 
 
 def page_rows(pattern):

@@ -4,8 +4,8 @@ import struct
 import subprocess
 import unittest
 
-from support import (CONSISTENT, FIGURES, INCONSISTENT, KINDS, PLACES, PROBLEMS, REFUSALS, REFUSED, ROOT, CommandTest, figure,
-                     known, lost_and_leaked, page_rows)
+from support import (CONSISTENT, FIGURES, INCONSISTENT, KINDS, PLACES, PROBLEMS, REFUSALS, REFUSED, ROOT, WITHDRAWN, CommandTest,
+                     figure, known, lost_and_leaked, page_rows)
 
 LISTING = os.path.join(ROOT, 'target', 'bin', 'listing')
 
@@ -109,7 +109,7 @@ class Answers(CommandTest):
         owners = [(str(number), name) for number, name in KINDS.items()]
         rows = page_rows(r'(\d+) \| (.*?)')
         self.assertEqual(rows[:len(owners)], owners)
-        self.assertEqual([int(number) for number, _ in rows[len(owners):]], sorted(REFUSALS.values()))
+        self.assertEqual([int(number) for number, _ in rows[len(owners):]], sorted({*REFUSALS.values(), *WITHDRAWN}))
 
     def test_lines_are_those_of_the_proved_listing(self):
         """The program crates/listing, whose text is proved, on the images that it takes whole."""

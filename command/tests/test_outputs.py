@@ -10,8 +10,9 @@ import subprocess
 import unittest
 import zlib
 
-from support import (BLOCK, COMMAND, CONSISTENT, DONE, INCONSISTENT, KINDS, LOGGED, NO_ANSWER, OPERATORS_PAGE, REFUSALS, REFUSED,
-                     ROOT, SAMPLE, CommandTest, figure, known, lost_and_leaked, overlap_blocks, page_rows, problem_blocks, sample)
+from support import (BLOCK, CHANGES_PAGE, COMMAND, CONSISTENT, DONE, INCONSISTENT, KINDS, LOGGED, NO_ANSWER, OPERATORS_PAGE,
+                     REFUSALS, REFUSED, ROOT, SAMPLE, WITHDRAWN, CommandTest, figure, known, lost_and_leaked, overlap_blocks,
+                     page_rows, problem_blocks, sample)
 
 MIB = 1 << 20
 # by what docs/OPERATOR.md says of them
@@ -281,7 +282,8 @@ class Texts(CommandTest):
         self.assertIn('absent', self.run_command('--quiet', 'absent')[2])
 
     def test_explanations(self):
-        numbers = set(REFUSALS.values())
+        given = set(REFUSALS.values())
+        numbers = given | WITHDRAWN
         sentences = set()
         for number in numbers:
             status, out, err = self.run_command('--explain', str(number))
@@ -290,6 +292,10 @@ class Texts(CommandTest):
             row = f'| {number} | {meaning} | {advice} |'
             self.assertTrue(row in OPERATORS_PAGE, row)
             sentences.add(meaning)
+            since = re.search(r'no longer given since version ([\d.]+),', meaning)
+            self.assertEqual(since is None, number in given)
+            if since:
+                self.assertIn(f'Version {since[1]} ', CHANGES_PAGE)
         self.assertEqual(len(sentences), len(numbers))
         for wrong in *(set(range(max(numbers) + 2)) - numbers), 'x':
             status, out, err = self.run_command('--explain', str(wrong))

@@ -6,11 +6,13 @@
 use space_check::Refusal;
 
 use crate::draft::Draft;
-use crate::fields::{manager, mapped, superblock};
+use crate::fields::{mapped, superblock};
 use crate::image::Image;
 use crate::model::{HIGHEST_COUNT, WALK_LEVELS};
 use crate::outside::Outside;
-use crate::recipes::{area_to_end, chain_of, deleted_of_lengths, first_mapping, queue_entry, queue_ghost, repeats_of};
+use crate::recipes::{
+    area_to_end, chain_of, deleted_of_lengths, first_mapping, queue_entry, queue_ghost, read_both_ways, repeats_of,
+};
 use crate::rng::Rng;
 use crate::seeds::Base;
 use crate::survey::Role;
@@ -87,10 +89,10 @@ pub const BOUNDARIES: &[Boundary] = &[
         near_refusal: None,
     },
     Boundary {
-        name: "address blocks",
-        rule: Outside::Added(Refusal::AddressBlocks),
-        near: |d| address_blocks(d, 0),
-        far: |d| address_blocks(d, 1),
+        name: "blocks",
+        rule: Outside::AddressBlocks,
+        near: |d| read_both_ways(d, 0),
+        far: |d| read_both_ways(d, 1),
         near_refusal: None,
     },
     Boundary {
@@ -211,11 +213,6 @@ fn count_of_superblock(d: &mut Draft, place: usize) -> Option<String> {
     }
     d.rewrite(superblocks[place], &[(superblock::BLOCK_COUNT, d.survey.count - 1)]);
     Some(format!("superblock {place} states {} of {} blocks", d.survey.count - 1, d.survey.count))
-}
-
-fn address_blocks(d: &mut Draft, blocks: u64) -> Option<String> {
-    d.rewrite(d.first(Role::Manager)?, &[(manager::ADDRESS_BLOCKS, blocks)]);
-    Some(format!("{blocks} of them"))
 }
 
 fn queued(d: &mut Draft, start: u64, length: u64) -> Option<String> {

@@ -1,7 +1,9 @@
 //! Builds a valid container of a given shape.
 
+use crate::address_block;
 use crate::fields::{
-    checkpoint_map, chunk, chunk_info, manager as m, mapped, mapping, object, object_map, put, queue, superblock as s,
+    checkpoint_map, chunk, chunk_info, manager as m, mapped, mapping, object, object_map, put_list, queue,
+    superblock as s,
 };
 use crate::fletcher::seal;
 use crate::free_list::FreeList;
@@ -51,6 +53,7 @@ pub fn build(shape: &Shape, rng: &mut Rng) -> Vec<u8> {
 
 /// What the manager has to know of pool and chunks.
 struct Infos {
+    address_blocks: Vec<u64>,
     addresses: Vec<u64>,
     indices: Vec<u64>,
     free_list: FreeList,
@@ -58,6 +61,17 @@ struct Infos {
     /// Where the pool's queued blocks begin.
     queued: u64,
     free: u64,
+}
+
+impl Infos {
+    /// What the manager's list names.
+    fn listed(&self) -> &[u64] {
+        if self.address_blocks.is_empty() {
+            &self.addresses
+        } else {
+            &self.address_blocks
+        }
+    }
 }
 
 impl Build<'_> {
@@ -142,6 +156,7 @@ impl Build<'_> {
         cuts.extend([0, self.places.count]);
         cuts.sort_unstable();
         let mut infos = Infos {
+            address_blocks: own.by_ref().take(shape.address_blocks as usize).collect(),
             addresses: Vec::new(),
             indices: Vec::new(),
             free_list: FreeList::through(&[], 0),
@@ -157,8 +172,24 @@ impl Build<'_> {
             used.extend(self.chunk_info(address, &cuts[from as usize..=to as usize], &bitmaps, &mut infos.free));
             infos.addresses.push(address);
         }
+        used.extend(&infos.address_blocks);
+        self.address_blocks(&infos);
         self.pool_bitmap(&used, &mut infos);
         infos
+    }
+
+    /// Address blocks over the chunk-info blocks in their order, some of them empty.
+    fn address_blocks(&mut self, infos: &Infos) {
+        let count = infos.addresses.len();
+        let mut cuts: Vec<usize> =
+            (1..infos.address_blocks.len()).map(|_| self.rng.below(count as u64 + 1) as usize).collect();
+        cuts.extend([0, count]);
+        cuts.sort_unstable();
+        let size = self.shape.block_size;
+        for (&address, ends) in infos.address_blocks.iter().zip(cuts.windows(2)) {
+            let block = &mut self.image[address as usize * size..][..size];
+            address_block::write(block, &infos.addresses[ends[0]..ends[1]], self.rng);
+        }
     }
 
     /// A chunk-info block over the chunks between `cuts`; gives the bitmaps that it took.
@@ -243,9 +274,10 @@ impl Build<'_> {
 
     /// A manager's bytes, its lists wherever there is room; `number` tells it from the other checkpoints'.
     fn manager(&mut self, infos: &Infos, number: u64) -> Vec<u8> {
+        let chunk_infos = self.stated_chunk_infos(infos);
         let (shape, places) = (self.shape, &self.places);
         let indices = infos.indices.len() * m::INDEX_WIDTH;
-        let addresses = infos.addresses.len() * m::ADDRESS_WIDTH;
+        let addresses = infos.listed().len() * m::ADDRESS_WIDTH;
         let lists = indices + addresses + infos.free_list.length();
         let whole = shape.manager_blocks as usize * shape.block_size;
         let least = (m::LENGTH + lists).max(whole - shape.block_size + 4);
@@ -256,15 +288,16 @@ impl Build<'_> {
         } else {
             self.rng.between(m::LENGTH as u64, (length - lists) as u64) as usize
         };
-        let info_offset = index_offset + indices;
+        let list_offset = index_offset + indices;
         let mut bytes = vec![0; length];
         object::ID.set(&mut bytes, MANAGER_ID);
         object::XID.set(&mut bytes, self.xid);
         object::TYPE.set(&mut bytes, object::MANAGER | object::EPHEMERAL);
         let fields = [
-            (m::CHUNK_INFO_COUNT, infos.addresses.len() as u64),
+            (m::CHUNK_INFO_COUNT, chunk_infos),
+            (m::ADDRESS_BLOCKS, infos.address_blocks.len() as u64),
             (m::FREE_COUNT, infos.free + number),
-            (m::CHUNK_INFO_OFFSET, info_offset as u64),
+            (m::LISTED_OFFSET, list_offset as u64),
             (m::POOL_COUNT, infos.pool_count),
             (m::BITMAP_SLOTS, shape.bitmap_slots),
             (m::BITMAP_RING, shape.bitmap_blocks()),
@@ -275,15 +308,23 @@ impl Build<'_> {
             (m::INDEX_OFFSET, index_offset as u64),
         ];
         fields.into_iter().for_each(|(field, value)| field.set(&mut bytes, value));
-        for (i, &index) in infos.indices.iter().enumerate() {
-            put(&mut bytes, index_offset + i * m::INDEX_WIDTH, m::INDEX_WIDTH, index);
-        }
-        for (i, &address) in infos.addresses.iter().enumerate() {
-            put(&mut bytes, info_offset + i * m::ADDRESS_WIDTH, m::ADDRESS_WIDTH, address);
-        }
-        infos.free_list.write(&mut bytes, info_offset + addresses);
+        put_list(&mut bytes, index_offset, m::INDEX_WIDTH, infos.indices.iter().copied());
+        put_list(&mut bytes, list_offset, m::ADDRESS_WIDTH, infos.listed().iter().copied());
+        infos.free_list.write(&mut bytes, list_offset + addresses);
         seal(&mut bytes);
         bytes
+    }
+
+    /// The chunk-info count that a manager states: below address blocks nothing reads it.
+    fn stated_chunk_infos(&mut self, infos: &Infos) -> u64 {
+        let count = infos.addresses.len() as u64;
+        match infos.address_blocks.len() as u64 {
+            0 => count,
+            blocks => {
+                let any = self.rng.number();
+                *self.rng.pick(&[count, 0, blocks, any])
+            }
+        }
     }
 
     /// A free queue whose entries name the blocks from `first` on.

@@ -5,7 +5,7 @@ use std::fmt;
 
 use space_check::{Kind, ProblemKind, Refusal, Verdict, LOGGED};
 
-use crate::answer::{Answer, Report};
+use crate::answer::{Answer, Problem, Report};
 use crate::image::Image;
 use crate::judge::{is_due, Judgement, LAST_UNTOUCHED};
 use crate::messages;
@@ -57,9 +57,13 @@ const DELETED_UNOWNED: &str = "a report, a deleted mapping names an unowned bloc
 const DELETED_PAST: &str = "a report, a deleted mapping names a block past the count";
 const DELETED_LAST: &str = "a report, a deleted mapping names block 2^64 - 1";
 const DELETED_REFUSED: &str = "a refusal after a deleted mapping";
+// Where address blocks are followed.
+const ADDRESS_AFTER: &str = "an unmarked address block after another problem";
+const ADDRESS_REPORTED: &str = "a report with address blocks";
+const ADDRESS_REFUSED: &str = "a refusal with address blocks";
 const DAMAGES: &str = "several damages";
 
-const FINDINGS: [&str; 26] = [
+const FINDINGS: [&str; 29] = [
     MANY_PROBLEMS,
     MANY_OVERLAPS,
     UNUSED,
@@ -85,11 +89,14 @@ const FINDINGS: [&str; 26] = [
     DELETED_PAST,
     DELETED_LAST,
     DELETED_REFUSED,
+    ADDRESS_AFTER,
+    ADDRESS_REPORTED,
+    ADDRESS_REFUSED,
     DAMAGES,
 ];
 
 /// The shapes that have to be met, as the survey names them.
-const SHAPES: [&str; 34] = [
+const SHAPES: [&str; 38] = [
     "block size 4096",
     "block size 8192",
     "block size 16384",
@@ -107,6 +114,10 @@ const SHAPES: [&str; 34] = [
     "data length with its top bit",
     "pool bitmap of several blocks",
     "several chunk-info blocks",
+    "several address blocks",
+    "empty address block",
+    "address block over several chunk-info blocks",
+    "address blocks beside another chunk-info count",
     "empty free list",
     "free list of several blocks",
     "chunk of no blocks",
@@ -188,6 +199,7 @@ fn refusal_rows(refusal: Refusal, notes: &Notes) -> Vec<Row> {
         (LONGER_MAP_REFUSED, refusal > LAST_UNTOUCHED && !notes.map_exact),
         (NEAR_4, notes.count == HIGHEST_COUNT && refusal == Refusal::MissingBlocks),
         (DELETED_REFUSED, notes.outside == Some(Outside::DeletedMapping)),
+        (ADDRESS_REFUSED, notes.outside == Some(Outside::AddressBlocks)),
     ])
 }
 
@@ -210,6 +222,7 @@ fn noted_rows(notes: &Notes) -> Vec<Row> {
         (DELETED_UNOWNED, notes.mappings.deleted_unowned),
         (DELETED_PAST, notes.mappings.deleted_past),
         (DELETED_LAST, notes.mappings.deleted_last),
+        (ADDRESS_REPORTED, notes.outside == Some(Outside::AddressBlocks)),
     ])
 }
 
@@ -222,7 +235,10 @@ fn report_rows(report: &Report, rows: &mut BTreeSet<Row>) {
     rows.extend(
         Kind::ALL.iter().zip(&report.lost).filter(|(_, lost)| lost.count != 0).map(|(&kind, _)| Row::Lost(kind)),
     );
+    let is_address = |problem: &Problem| problem.kind == ProblemKind::AddressUnmarked.number();
+    let after = report.first_problems.windows(2).any(|pair| !is_address(&pair[0]) && is_address(&pair[1]));
     rows.extend(held(&[
+        (ADDRESS_AFTER, after),
         (MANY_PROBLEMS, report.problems > LOGGED as u64),
         (MANY_OVERLAPS, report.overlaps > LOGGED as u64),
         (UNUSED, report.pool_unused > 0),

@@ -6,9 +6,9 @@ use crate::recipes::RECIPES;
 use crate::survey::{Object, Role};
 
 /// Sizes that something is compared with somewhere.
-const SIZES: [u64; 22] = [
-    8, 15, 16, 17, 31, 32, 33, 40, 101, 102, 126, 127, 340, 344, 348, 4092, 4096, 4100, 0xffff, 0x1_0000, 0xf_ffff,
-    0x10_0000,
+const SIZES: [u64; 24] = [
+    8, 15, 16, 17, 31, 32, 33, 40, 101, 102, 126, 127, 340, 344, 348, 507, 508, 4092, 4096, 4100, 0xffff, 0x1_0000,
+    0xf_ffff, 0x10_0000,
 ];
 
 /// A manager of more bytes than this costs seconds: most such values are made smaller.

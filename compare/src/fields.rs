@@ -34,6 +34,11 @@ pub fn put(bytes: &mut [u8], at: usize, width: usize, value: u64) {
     bytes[at..at + width].copy_from_slice(&value.to_le_bytes()[..width]);
 }
 
+/// Puts numbers of `width` bytes one after the other, from byte `at` on.
+pub fn put_list(bytes: &mut [u8], at: usize, width: usize, values: impl IntoIterator<Item = u64>) {
+    values.into_iter().enumerate().for_each(|(i, value)| put(bytes, at + i * width, width, value));
+}
+
 macro_rules! fields {
     ($($constant:ident $name:literal $at:literal $width:literal;)*) => {
         $(pub const $constant: Field = Field { name: $name, at: $at, width: $width };)*
@@ -57,6 +62,7 @@ pub mod object {
     pub const ROOT_NODE: u64 = 2;
     pub const NODE: u64 = 3;
     pub const MANAGER: u64 = 5;
+    pub const ADDRESS_BLOCK: u64 = 6;
     pub const CHUNK_INFO: u64 = 7;
     pub const FREE_QUEUE: u64 = 9;
     pub const OBJECT_MAP: u64 = 11;
@@ -120,7 +126,7 @@ pub mod manager {
         CHUNK_INFO_COUNT "chunk-info count" 64 4;
         ADDRESS_BLOCKS "address blocks" 68 4;
         FREE_COUNT "free count" 72 8;
-        CHUNK_INFO_OFFSET "chunk-info offset" 80 4;
+        LISTED_OFFSET "list offset" 80 4;
         POOL_COUNT "pool count" 152 8;
         BITMAP_SLOTS "bitmap slots" 160 4;
         BITMAP_RING "bitmap ring" 164 4;
@@ -144,7 +150,29 @@ pub mod manager {
     /// What the members of its lists are called.
     pub const INDEX: &str = "bitmap index";
     pub const FREE_NEXT: &str = "free-next index";
-    pub const CHUNK_INFO_ADDRESS: &str = "chunk-info address";
+    /// Of a chunk-info block, or of an address block where there are any.
+    pub const LISTED_ADDRESS: &str = "listed address";
+}
+
+/// An address block: a list of chunk-info blocks.
+pub mod address_block {
+    use super::Field;
+    fields! {
+        INDEX "index" 32 4;
+        COUNT "count" 36 4;
+    }
+    pub const ADDRESSES: usize = 40;
+    pub const ADDRESS_WIDTH: usize = 8;
+
+    /// So many addresses fit a block.
+    pub const fn room(block_size: usize) -> usize {
+        (block_size - ADDRESSES) / ADDRESS_WIDTH
+    }
+
+    /// The address of its chunk-info block `i`.
+    pub fn address(i: usize) -> Field {
+        Field { name: "chunk-info address", at: ADDRESSES + i * ADDRESS_WIDTH, width: ADDRESS_WIDTH }
+    }
 }
 
 /// A chunk-info block.

@@ -1,7 +1,7 @@
 //! The unused blocks of the pool bitmap's ring, as the manager lists them: a head, a tail, and a table with the block
 //! that follows each.
 
-use crate::fields::{manager as m, put};
+use crate::fields::{manager as m, put_list};
 
 pub struct FreeList {
     head: u64,
@@ -30,9 +30,7 @@ impl FreeList {
         m::FREE_HEAD.set(manager, self.head);
         m::FREE_TAIL.set(manager, self.tail);
         m::FREE_NEXT_OFFSET.set(manager, at as u64);
-        for (i, &next) in self.next.iter().enumerate() {
-            put(manager, at + i * m::INDEX_WIDTH, m::INDEX_WIDTH, next);
-        }
+        put_list(manager, at, m::INDEX_WIDTH, self.next.iter().copied());
     }
 }
 

@@ -2,6 +2,7 @@
 //!
 //! The command `compare` runs them; `bench` times them, and takes from here how containers are laid out and built.
 
+mod address_block;
 pub mod answer;
 mod boundary;
 mod container;

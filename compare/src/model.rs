@@ -134,7 +134,7 @@ fn pass(blocks: &Blocks, taken: &Taken, cells: &mut [u8], notes: &mut Notes) -> 
     let manager = Manager::load(blocks, taken, notes)?;
     let pool = Pool::load(blocks, &manager)?;
     let mut audit = Audit { pool: &pool, cells, report: Report::default(), notes };
-    audit.chunk_infos(blocks, &manager)?;
+    audit.listed(blocks, &manager)?;
     audit.queue(blocks, taken, manager.field(m::POOL_QUEUE))?;
     let mut report = audit.report;
     report.pool_unused = pool.unused(cells)?;

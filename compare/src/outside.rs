@@ -13,22 +13,24 @@ pub enum Outside {
     QueuedPastCount,
     /// A deleted mapping where the mappings are claimed: in the original it claims its block.
     DeletedMapping,
+    /// A manager with address blocks, which the original reads as chunk-info blocks.
+    AddressBlocks,
 }
 
 /// Refusals that are added whole.
-const ADDED: [Refusal; 7] = [
+const ADDED: [Refusal; 6] = [
     Refusal::BlockCount,
     Refusal::MissingBlocks,
     Refusal::ShortMap,
     Refusal::DescriptorArea,
     Refusal::CountDiffers,
-    Refusal::AddressBlocks,
     Refusal::TooManyNodes,
 ];
 
 impl Outside {
     pub fn all() -> Vec<Outside> {
-        ADDED.map(Outside::Added).into_iter().chain([Outside::QueuedPastCount, Outside::DeletedMapping]).collect()
+        let others = [Outside::QueuedPastCount, Outside::DeletedMapping, Outside::AddressBlocks];
+        ADDED.map(Outside::Added).into_iter().chain(others).collect()
     }
 
     /// The rule of a refusal that is added whole.
@@ -42,6 +44,7 @@ impl Outside {
             Outside::Added(refusal) => refusal.number().to_string(),
             Outside::QueuedPastCount => Refusal::Overflow.number().to_string(),
             Outside::DeletedMapping => "deleted".into(),
+            Outside::AddressBlocks => "address".into(),
         }
     }
 }
@@ -54,6 +57,7 @@ impl fmt::Display for Outside {
                 write!(f, "refusal {}, a pool-queue entry past the count", Refusal::Overflow.number())
             }
             Outside::DeletedMapping => write!(f, "a deleted mapping"),
+            Outside::AddressBlocks => write!(f, "address blocks"),
         }
     }
 }

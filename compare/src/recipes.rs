@@ -2,12 +2,14 @@
 //!
 //! Another damage may have come before: no field read here need be sound any more.
 
+mod address;
 mod checkpoint;
 mod manager;
 mod mapping;
 mod tree;
 
 use crate::draft::Draft;
+pub use address::read_both_ways;
 pub use checkpoint::area_to_end;
 pub use mapping::{deleted_of_lengths, first_mapping};
 pub use tree::{chain_of, queue_entry, queue_ghost, repeats_of};
@@ -43,6 +45,16 @@ pub const RECIPES: &[(&str, Recipe)] = &[
     ("pool bitmap in block 0", manager::bitmap_in_block_zero),
     ("no pool", manager::no_pool),
     ("pool at the end of numbers", manager::far_pool),
+    ("address blocks added", address::added),
+    ("address block named twice", address::twice),
+    ("address block as chunk-info block", address::as_chunk_info),
+    ("address block as chunk bitmap", address::as_bitmap),
+    ("address block queued", address::queued),
+    ("address block full", address::full),
+    ("address block with an address too many", address::overfull),
+    ("address block in block 0", address::in_block_zero),
+    ("address block past the container", address::past_container),
+    ("address blocks listed at the manager's end", address::list_to_end),
 ];
 
 fn cut_image(d: &mut Draft) -> Option<String> {

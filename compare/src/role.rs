@@ -8,6 +8,7 @@ pub enum Role {
     CheckpointMap,
     Manager,
     PoolBitmap,
+    AddressBlock,
     ChunkInfo,
     ChunkBitmap,
     ObjectMap,
@@ -17,12 +18,13 @@ pub enum Role {
 }
 
 impl Role {
-    pub const ALL: [Role; 11] = [
+    pub const ALL: [Role; 12] = [
         Role::BlockZero,
         Role::Superblock,
         Role::CheckpointMap,
         Role::Manager,
         Role::PoolBitmap,
+        Role::AddressBlock,
         Role::ChunkInfo,
         Role::ChunkBitmap,
         Role::ObjectMap,
@@ -38,6 +40,7 @@ impl Role {
             Role::CheckpointMap => "checkpoint map",
             Role::Manager => "manager",
             Role::PoolBitmap => "pool bitmap",
+            Role::AddressBlock => "address block",
             Role::ChunkInfo => "chunk-info block",
             Role::ChunkBitmap => "chunk bitmap",
             Role::ObjectMap => "object map",
@@ -49,6 +52,7 @@ impl Role {
 
     /// The object's checksum is tested.
     pub fn sealed(self) -> bool {
-        !matches!(self, Role::BlockZero | Role::PoolBitmap | Role::ChunkInfo | Role::ChunkBitmap)
+        use Role::{AddressBlock, BlockZero, ChunkBitmap, ChunkInfo, PoolBitmap};
+        !matches!(self, BlockZero | PoolBitmap | AddressBlock | ChunkInfo | ChunkBitmap)
     }
 }

@@ -128,10 +128,12 @@ mod tests {
     }
 
     #[test]
-    fn deleted_mappings_are_seldom() {
+    fn what_takes_containers_outside_is_seldom() {
         let deletes = |base: &Base| base.survey.features.iter().any(|f| f == "object map with deleted mappings");
-        let found = (0..1000).map(Base::build).filter(deletes).count();
-        assert!((10..100).contains(&found), "{found} of 1000");
+        let has_address_blocks = |base: &Base| !base.survey.with_role(Role::AddressBlock).is_empty();
+        let met: Vec<[bool; 2]> = (0..1000).map(Base::build).map(|b| [deletes(&b), has_address_blocks(&b)]).collect();
+        let found = [0, 1].map(|rule| met.iter().filter(|met| met[rule]).count());
+        assert!(found.iter().all(|few| (10..100).contains(few)), "{found:?} of 1000");
     }
 
     #[test]

@@ -30,6 +30,8 @@ pub struct Shape {
     /// The pool stands last and its count reaches past the container.
     pub pool_reaches_out: bool,
     pub pool_slack: u64,
+    /// None in most: the original can't be compared on a container that has some.
+    pub address_blocks: u64,
     pub chunk_infos: u64,
     pub chunks: u64,
     pub object_map: TreeShape,
@@ -92,8 +94,8 @@ impl Shape {
     /// More pool blocks than one bitmap block has bits, and chunks that still fit theirs.
     pub fn with_large_pool(rng: &mut Rng) -> Self {
         let shape = Self::of_size(rng, 4096, 3);
-        let (bitmap_slots, pool_slack) = (2, 50_000);
-        Shape { bitmap_slots, pool_slack, pool_reaches_out: false, chunk_infos: 3, chunks: 40, ..shape }
+        let (bitmap_slots, pool_slack, address_blocks) = (2, 50_000, 0);
+        Shape { bitmap_slots, pool_slack, pool_reaches_out: false, address_blocks, chunk_infos: 3, chunks: 40, ..shape }
     }
 
     /// Numbers of things go up to `most`.
@@ -124,6 +126,7 @@ impl Shape {
             bitmap_slack: rng.below(most),
             pool_reaches_out: rng.chance(10),
             pool_slack: rng.below(most + 1),
+            address_blocks: if rng.chance(4) { rng.between(1, most + 1) } else { 0 },
             chunk_infos,
             chunks: rng.between(chunk_infos, chunk_infos * most),
             object_map: tree(rng, map_most),
@@ -159,10 +162,10 @@ impl Shape {
         self.bitmap_slots + self.bitmap_slack
     }
 
-    /// Pool blocks inside the container: chunk-info blocks, chunk bitmaps, queued blocks and some more.
+    /// Pool blocks inside the container: address blocks, chunk-info blocks, chunk bitmaps, queued blocks and some more.
     pub fn pool_blocks(&self) -> u64 {
         let queued = self.pool_queue.as_ref().map_or(0, QueueShape::blocks);
-        self.chunk_infos + self.chunks + queued + self.pool_slack
+        self.address_blocks + self.chunk_infos + self.chunks + queued + self.pool_slack
     }
 
     /// Leaf entries of the object map's tree.

@@ -138,25 +138,43 @@ impl Surveyor<'_> {
             listed(&bytes, manager::INDEX, manager::INDEX_OFFSET, manager::BITMAP_SLOTS, manager::INDEX_WIDTH);
         let free =
             listed(&bytes, manager::FREE_NEXT, manager::FREE_NEXT_OFFSET, manager::BITMAP_RING, manager::INDEX_WIDTH);
-        let (offset, count) = (manager::CHUNK_INFO_OFFSET, manager::CHUNK_INFO_COUNT);
-        let infos = listed(&bytes, manager::CHUNK_INFO_ADDRESS, offset, count, manager::ADDRESS_WIDTH);
+        let address_blocks = manager::ADDRESS_BLOCKS.of(&bytes);
+        let count = if address_blocks > 0 { manager::ADDRESS_BLOCKS } else { manager::CHUNK_INFO_COUNT };
+        let addresses = listed(&bytes, manager::LISTED_ADDRESS, manager::LISTED_OFFSET, count, manager::ADDRESS_WIDTH);
         self.feature(blocks.len() > 1, "manager over several blocks");
         self.feature(blocks.windows(2).any(|w| w[1] < w[0]), "manager wraps");
         self.feature(indices.len() > 1, "pool bitmap of several blocks");
-        self.feature(infos.len() > 1, "several chunk-info blocks");
         let (head, tail) = (manager::FREE_HEAD.of(&bytes), manager::FREE_TAIL.of(&bytes));
         self.feature(head == manager::NO_INDEX, "empty free list");
         self.feature(head != tail, "free list of several blocks");
-        let fields = [manager::ALL, &indices, &infos, &free].concat();
+        let fields = [manager::ALL, &indices, &addresses, &free].concat();
         self.survey.objects.push(Object { role: Role::Manager, blocks, length, fields, bits: 0 });
         let (base, pool) = (manager::BITMAP_BASE.of(&bytes), manager::POOL_COUNT.of(&bytes));
         for index in indices {
             self.add_bits(Role::PoolBitmap, base + index.of(&bytes), Vec::new(), pool);
         }
-        infos.iter().try_for_each(|info| self.chunk_info(info.of(&bytes)))?;
+        let read = if address_blocks > 0 { Self::address_block } else { Self::chunk_info };
+        addresses.iter().try_for_each(|address| read(self, address.of(&bytes)))?;
+        self.chunk_info_features(address_blocks, manager::CHUNK_INFO_COUNT.of(&bytes));
         self.queue(Role::PoolQueueNode, manager::POOL_QUEUE.of(&bytes));
         self.queue(Role::MainQueueNode, manager::MAIN_QUEUE.of(&bytes));
         Some(())
+    }
+
+    fn chunk_info_features(&mut self, address_blocks: u64, stated: u64) {
+        let found = self.survey.with_role(Role::ChunkInfo).len() as u64;
+        self.feature(found > 1 && address_blocks == 0, "several chunk-info blocks");
+        self.feature(address_blocks > 1, "several address blocks");
+        self.feature(address_blocks > 0 && stated != found, "address blocks beside another chunk-info count");
+    }
+
+    fn address_block(&mut self, address: u64) -> Option<()> {
+        let block = self.blocks.raw(address).ok()?;
+        let addresses: Vec<Field> = (0..address_block::COUNT.of(block) as usize).map(address_block::address).collect();
+        self.feature(addresses.is_empty(), "empty address block");
+        self.feature(addresses.len() > 1, "address block over several chunk-info blocks");
+        self.add(Role::AddressBlock, address, [address_block::ALL, &addresses].concat());
+        addresses.iter().try_for_each(|address| self.chunk_info(address.of(block)))
     }
 
     fn chunk_info(&mut self, address: u64) -> Option<()> {

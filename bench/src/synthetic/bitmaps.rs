@@ -3,12 +3,12 @@
 use compare::fields::{chunk, chunk_info, object};
 use compare::rng::Rng;
 
-use super::{BLOCK, XID};
+use super::{Form, BLOCK, XID};
 
 /// A chunk has as many blocks as its bitmap block has bits.
 const CHUNK: u64 = 8 * BLOCK as u64;
-/// So many chunk records fit a block.
-const RECORDS: usize = (BLOCK - chunk_info::RECORDS) / chunk_info::RECORD;
+/// So many chunk records fit a chunk-info block.
+pub const RECORDS: usize = (BLOCK - chunk_info::RECORDS) / chunk_info::RECORD;
 
 /// Bits over whole blocks.
 pub struct Bits {
@@ -37,36 +37,25 @@ pub struct Chunks {
     pub bits: Bits,
     /// For each chunk whether nothing is to be claimed there.
     empty: Vec<bool>,
+    bitmap_every: u64,
 }
 
 impl Chunks {
-    /// A third of the chunks is full, a third empty, a third random.
-    pub fn choose(blocks: u64, rng: &mut Rng) -> Self {
-        let mut bits = Bits::new(blocks);
-        let mut empty = Vec::new();
-        for bitmap in bits.bytes.chunks_mut(BLOCK) {
+    /// Of the chunks with a bitmap a third is full, a third empty, a third random.
+    pub fn choose(form: &Form, rng: &mut Rng) -> Self {
+        let mut bits = Bits::new(form.blocks);
+        let mut empty = vec![true; form.chunks() as usize];
+        let chunks = bits.bytes.chunks_mut(BLOCK).zip(&mut empty);
+        for (bitmap, empty) in chunks.step_by(form.bitmap_every as usize) {
             let kind = rng.below(3);
             match kind {
                 0 => {}
                 1 => bitmap.fill(0xff),
                 _ => bitmap.chunks_mut(8).for_each(|word| word.copy_from_slice(&rng.number().to_le_bytes())),
             }
-            empty.push(kind == 0);
+            *empty = kind == 0;
         }
-        Chunks { bits, empty }
-    }
-
-    pub fn chunk_count(blocks: u64) -> u64 {
-        Bits::blocks(blocks)
-    }
-
-    pub fn info_count(blocks: u64) -> u64 {
-        Self::chunk_count(blocks).div_ceil(RECORDS as u64)
-    }
-
-    /// Pool blocks that the bitmaps and their lists take.
-    pub fn own_blocks(blocks: u64) -> u64 {
-        Self::chunk_count(blocks) + Self::info_count(blocks)
+        Chunks { bits, empty, bitmap_every: form.bitmap_every }
     }
 
     /// Starts of all slots of `size` blocks after block `from` that lie in chunks not empty.
@@ -76,34 +65,40 @@ impl Chunks {
     }
 
     pub fn bitmaps(&self) -> impl Iterator<Item = &[u8]> {
-        self.bits.bytes.chunks(BLOCK)
+        self.bits.bytes.chunks(BLOCK).step_by(self.bitmap_every as usize)
     }
 
     pub fn free(&self) -> u64 {
-        self.bitmaps().map(zeros).sum()
+        zeros(&self.bits.bytes)
     }
 
     /// The chunk-info blocks, where the bitmaps stand from block `first` on.
     pub fn info_blocks(&self, first: u64) -> Vec<Vec<u8>> {
-        let bitmaps: Vec<&[u8]> = self.bitmaps().collect();
-        let listed = (0..).step_by(RECORDS).zip(bitmaps.chunks(RECORDS));
-        listed.map(|(number, bitmaps)| info_block(number, first + number, bitmaps)).collect()
+        let chunks: Vec<(u64, &[u8])> = (0..).zip(self.bits.bytes.chunks(BLOCK)).collect();
+        chunks.chunks(RECORDS).map(|listed| self.info_block(listed, first)).collect()
+    }
+
+    /// The records of chunks, each with its number and its bits.
+    fn info_block(&self, chunks: &[(u64, &[u8])], first: u64) -> Vec<u8> {
+        let mut block = physical(object::CHUNK_INFO);
+        chunk_info::COUNT.set(&mut block, chunks.len() as u64);
+        for (at, &(number, bits)) in (chunk_info::RECORDS..).step_by(chunk_info::RECORD).zip(chunks) {
+            let (free, has_bitmap) = (zeros(bits), number.is_multiple_of(self.bitmap_every));
+            assert!(has_bitmap || free == CHUNK, "chunk {number} has marked blocks and no bitmap");
+            chunk::ADDRESS.shifted(at).set(&mut block, number * CHUNK);
+            chunk::BLOCKS.shifted(at).set(&mut block, CHUNK);
+            chunk::FREE.shifted(at).set(&mut block, free);
+            chunk::BITMAP.shifted(at).set(&mut block, if has_bitmap { first + number / self.bitmap_every } else { 0 });
+        }
+        block
     }
 }
 
-/// The records of the chunks from `number` on, whose bitmaps stand from block `first` on.
-fn info_block(number: u64, first: u64, bitmaps: &[&[u8]]) -> Vec<u8> {
+/// A block with the header of a physical object.
+pub fn physical(kind: u64) -> Vec<u8> {
     let mut block = vec![0; BLOCK];
     object::XID.set(&mut block, XID);
-    object::TYPE.set(&mut block, object::CHUNK_INFO | object::PHYSICAL);
-    chunk_info::COUNT.set(&mut block, bitmaps.len() as u64);
-    for (i, bitmap) in bitmaps.iter().enumerate() {
-        let at = chunk_info::RECORDS + i * chunk_info::RECORD;
-        chunk::ADDRESS.shifted(at).set(&mut block, (number + i as u64) * CHUNK);
-        chunk::BLOCKS.shifted(at).set(&mut block, CHUNK);
-        chunk::FREE.shifted(at).set(&mut block, zeros(bitmap));
-        chunk::BITMAP.shifted(at).set(&mut block, first + i as u64);
-    }
+    object::TYPE.set(&mut block, kind | object::PHYSICAL);
     block
 }
 

@@ -2,32 +2,38 @@
 
 use std::io;
 
-use compare::fields::{manager as m, object, put};
+use compare::fields::{manager as m, object, put_list};
 use compare::fletcher::seal;
 use compare::free_list::FreeList;
 
-use super::bitmaps::{Bits, Chunks};
+use super::bitmaps::Bits;
 use super::queues::ring_index;
 use super::{Build, BLOCK, MANAGER_ID, QUEUE_ID, XID};
 
-/// Where its lists stand: pool bitmap indices behind its fields, then the ring's unused blocks; and chunk-info addresses.
+/// Where its lists stand: pool bitmap indices behind its fields, then the ring's unused blocks; and the addresses of
+/// chunk-info blocks, or of address blocks.
 const INDICES: usize = m::LENGTH;
 const ADDRESSES: usize = 2048;
+/// So many addresses fit.
+pub const ADDRESS_ROOM: u64 = ((BLOCK - ADDRESSES) / m::ADDRESS_WIDTH) as u64;
 
 impl Build<'_> {
     pub fn manager(&self, free: u64) -> io::Result<()> {
         let (form, places) = (&self.form, &self.places);
         let slots = Bits::blocks(form.pool_blocks());
-        let infos = Chunks::info_count(form.blocks);
-        let first_info = places.pool + Chunks::chunk_count(form.blocks);
+        let addresses = match form.address_blocks() {
+            0 => places.infos..places.address_blocks,
+            count => places.address_blocks..places.address_blocks + count,
+        };
         let mut block = vec![0; BLOCK];
         let fields = [
             (object::ID, MANAGER_ID),
             (object::XID, XID),
             (object::TYPE, object::MANAGER | object::EPHEMERAL),
-            (m::CHUNK_INFO_COUNT, infos),
+            (m::CHUNK_INFO_COUNT, form.infos()),
+            (m::ADDRESS_BLOCKS, form.address_blocks()),
             (m::FREE_COUNT, free),
-            (m::CHUNK_INFO_OFFSET, ADDRESSES as u64),
+            (m::LISTED_OFFSET, ADDRESSES as u64),
             (m::POOL_COUNT, form.pool_blocks()),
             (m::BITMAP_SLOTS, slots),
             (m::BITMAP_RING, places.pool - places.bitmap_ring),
@@ -40,16 +46,12 @@ impl Build<'_> {
         ];
         fields.into_iter().for_each(|(field, value)| field.set(&mut block, value));
         let indices: Vec<u64> = (0..slots).map(ring_index).collect();
-        list(&mut block, INDICES, m::INDEX_WIDTH, indices.iter().copied());
+        put_list(&mut block, INDICES, m::INDEX_WIDTH, indices.iter().copied());
         let ring = places.pool - places.bitmap_ring;
         let unused: Vec<u64> = (0..ring).filter(|index| !indices.contains(index)).collect();
         FreeList::through(&unused, ring).write(&mut block, INDICES + indices.len() * m::INDEX_WIDTH);
-        list(&mut block, ADDRESSES, m::ADDRESS_WIDTH, first_info..first_info + infos);
+        put_list(&mut block, ADDRESSES, m::ADDRESS_WIDTH, addresses);
         seal(&mut block);
         self.put(places.data, &block)
     }
-}
-
-fn list(block: &mut [u8], at: usize, width: usize, numbers: impl Iterator<Item = u64>) {
-    numbers.enumerate().for_each(|(i, number)| put(block, at + i * width, width, number));
 }

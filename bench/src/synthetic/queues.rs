@@ -6,7 +6,7 @@ use compare::fields::{object, queue};
 use compare::nodes::{bytes_of, Entry, Sizes};
 use compare::rng::Rng;
 
-use super::bitmaps::{Bits, Chunks};
+use super::bitmaps::Bits;
 use super::trees::Tree;
 use super::{Build, BLOCK, QUEUE_ID, XID};
 
@@ -35,7 +35,7 @@ impl Build<'_> {
 
     /// The pool's queue, with a run in each slot behind the pool's own blocks, and the bitmap that marks both.
     pub fn pool(&mut self) -> io::Result<()> {
-        let own = Chunks::own_blocks(self.form.blocks);
+        let own = self.form.own_blocks();
         let mut marked = Bits::new(self.form.pool_blocks());
         marked.set(0, own);
         let mut runs = Vec::new();

@@ -8,7 +8,7 @@ use super::manager::Manager;
 use super::tree::{scan_queue, Entry};
 use super::Notes;
 use crate::answer::{Problem, Report};
-use crate::fields::{chunk, chunk_info, manager as m, queue};
+use crate::fields::{address_block, chunk, chunk_info, manager as m, queue};
 use crate::outside::Outside;
 
 /// The internal pool and its bitmap, block after block.
@@ -61,6 +61,12 @@ struct Chunk {
     bitmap: u64,
 }
 
+/// All chunk-info blocks that an address block names; its end alone bounds their number.
+fn addresses(block: &[u8]) -> Step<Vec<u64>> {
+    let places = (0..address_block::COUNT.of(block) as usize).map(address_block::address);
+    places.map(|place| field(block, place.at, place.width)).collect()
+}
+
 /// All records of a chunk-info block.
 fn chunks(block: &[u8]) -> Step<Vec<Chunk>> {
     let record = |i: usize| {
@@ -101,10 +107,32 @@ impl Audit<'_, '_> {
         self.report.problems += 1;
     }
 
-    /// The address list is read whole before the first block, a block's records before its first chunk.
-    pub fn chunk_infos(&mut self, blocks: &Blocks, manager: &Manager) -> Step<()> {
-        let (offset, count) = (manager.field(m::CHUNK_INFO_OFFSET), manager.field(m::CHUNK_INFO_COUNT));
-        for address in manager.list(offset, count, m::ADDRESS_WIDTH)? {
+    /// The blocks that the manager lists: address blocks where it counts any, whatever its other count says, else
+    /// chunk-info blocks. Every list is read whole before the first block that it names.
+    pub fn listed(&mut self, blocks: &Blocks, manager: &Manager) -> Step<()> {
+        let offset = manager.field(m::LISTED_OFFSET);
+        let list = |count| manager.list(offset, manager.field(count), m::ADDRESS_WIDTH);
+        if manager.field(m::ADDRESS_BLOCKS) > 0 {
+            self.address_blocks(blocks, &list(m::ADDRESS_BLOCKS)?)
+        } else {
+            self.chunk_infos(blocks, &list(m::CHUNK_INFO_COUNT)?)
+        }
+    }
+
+    /// The chunk-info blocks of one come before the next.
+    fn address_blocks(&mut self, blocks: &Blocks, listed: &[u64]) -> Step<()> {
+        for &address in listed {
+            self.problem_if(!self.pool.marks(address), ProblemKind::AddressUnmarked, address);
+            let infos = addresses(blocks.raw(address)?)?;
+            self.cells[address as usize] |= Cell::POOL_USED;
+            self.chunk_infos(blocks, &infos)?;
+        }
+        Ok(())
+    }
+
+    /// A block's records are read before its first chunk.
+    fn chunk_infos(&mut self, blocks: &Blocks, listed: &[u64]) -> Step<()> {
+        for &address in listed {
             self.problem_if(!self.pool.marks(address), ProblemKind::InfoUnmarked, address);
             let records = chunks(blocks.raw(address)?)?;
             self.cells[address as usize] |= Cell::POOL_USED;
@@ -171,6 +199,32 @@ mod tests {
         assert_eq!(chunks(&block).map(|c| c.len()), Ok(126));
         chunk_info::COUNT.set(&mut block, 127);
         assert_eq!(chunks(&block).map(|c| c.len()), Err(Refusal::OutsideBytes));
+    }
+
+    #[test]
+    fn a_block_holds_507_addresses() {
+        let mut block = vec![0; 4096];
+        address_block::COUNT.set(&mut block, 507);
+        address_block::address(506).set(&mut block, 9);
+        assert_eq!(addresses(&block).map(|a| (a.len(), a[506])), Ok((507, 9)));
+        address_block::COUNT.set(&mut block, 508);
+        assert_eq!(addresses(&block), Err(Refusal::OutsideBytes));
+    }
+
+    #[test]
+    fn an_address_block_is_left_before_the_next() {
+        let mut image = vec![0; 4 * 4096];
+        address_block::COUNT.set(&mut image[4096..], 1);
+        address_block::address(0).set(&mut image[4096..], 3);
+        let blocks = Blocks { image: &image, size: 4096, count: 4 };
+        let (mut cells, mut notes) = ([0; 4], Notes::default());
+        let pool = Pool { base: 0, count: 0, bitmaps: Vec::new() };
+        let mut audit = Audit { pool: &pool, cells: &mut cells, report: Report::default(), notes: &mut notes };
+        // Nothing is marked; block 2 is an empty address block, block 3 a chunk-info block without records.
+        assert_eq!(audit.address_blocks(&blocks, &[1, 2, 1]), Ok(()));
+        let found = audit.report.first_problems.map(|p| (p.kind, p.block));
+        assert_eq!(found[..5], [(6, 1), (1, 3), (6, 2), (6, 1), (1, 3)]);
+        assert_eq!((audit.report.problems, cells), (5, [0, 0x20, 0x20, 0x20]));
     }
 
     #[test]

@@ -7,6 +7,7 @@ use super::checkpoint::Taken;
 use super::Notes;
 use crate::fields::{manager, superblock, Field};
 use crate::fletcher::verifies_in_parts;
+use crate::outside::Outside;
 
 /// Area lengths drop their top bit.
 pub const LENGTH_MASK: u64 = 0x7fff_ffff;
@@ -47,7 +48,9 @@ impl<'a> Manager<'a> {
         need(verifies_in_parts(&parts, length), Refusal::BadChecksum)?;
         need(length >= manager::LENGTH, Refusal::OutsideBytes)?;
         let manager = Manager { parts, length };
-        need(manager.field(manager::ADDRESS_BLOCKS) == 0, Refusal::AddressBlocks)?;
+        if manager.field(manager::ADDRESS_BLOCKS) > 0 {
+            notes.outside.get_or_insert(Outside::AddressBlocks);
+        }
         Ok(manager)
     }
 

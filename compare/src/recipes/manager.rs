@@ -26,7 +26,7 @@ pub fn other_length(d: &mut Draft) -> Option<String> {
     let most = object.blocks.len() * d.survey.block_size;
     let length = match d.rng.below(4) {
         0 => *d.rng.pick(&[28, 32, 36, 340, 344, 348]),
-        1 => d.get(object, manager::CHUNK_INFO_OFFSET) as usize + 4 * d.rng.below(3) as usize,
+        1 => d.get(object, manager::LISTED_OFFSET) as usize + 4 * d.rng.below(3) as usize,
         2 => d.get(object, manager::INDEX_OFFSET) as usize,
         _ => 4 * d.rng.between(8, most as u64 / 4) as usize,
     };
@@ -38,7 +38,7 @@ pub fn short(d: &mut Draft) -> Option<String> {
     let object = d.first(Role::Manager)?;
     let lists = [
         (manager::INDEX_OFFSET, manager::INDEX),
-        (manager::CHUNK_INFO_OFFSET, manager::CHUNK_INFO_ADDRESS),
+        (manager::LISTED_OFFSET, manager::LISTED_ADDRESS),
         (manager::FREE_NEXT_OFFSET, manager::FREE_NEXT),
     ];
     let mut at = manager::SPARE.start;

@@ -1,26 +1,23 @@
--- Laws of chunks and chunk-info blocks, one at a time.
+-- Laws of chunks, one at a time, and of a chunk-info block.
 use mathlib.Core.List.{List}
 use mathlib.Core.Path.{_≡_, refl}
 use Prim.Native.Nat.{ℕ, zero, suc, _+_, _-_, _*_, _<_}
-use native.Mathlib.Nat.{add-zero}
 use native.Mathlib.Omega.{arith}
 use borrow.Author.Tests.{eq-eqb, ne-eqb}
-use Rattle.fields.specs.Fields.{num}
 use Rattle.blocks.specs.Reads.{done, given, run, _>>=_}
 use Rattle.blocks.specs.declared.Address.{Address}
 use Rattle.blocks.specs.declared.Container.{Container}
 use Rattle.manager.specs.Chunks.{chunkAt, chunksAt, chunkLength, chunkCount, chunksOf}
-use Rattle.manager.specs.contracts.Lists.{values, records}
+use Rattle.manager.specs.contracts.Lists.{records}
 use Rattle.manager.specs.declared.Chunk.{Chunk}
 use Rattle.block_map.specs.BlockMap.{Marked, update, used}
 use Rattle.report.specs.contracts.Steps.{Stepped}
 use Rattle.report.specs.declared.Ending.{Ending}
-use Rattle.report.proofs.StepLaws.{given-then}
 use Rattle.pool.specs.Pool.{Pool}
-use Rattle.audit.specs.Audit.{enter, tally, auditBitmap, auditChunk, auditChunks, enterInfo, auditInfo, auditInfos}
+use Rattle.audit.specs.Audit.{tally, auditBitmap, auditChunk, auditChunks, enterInfo}
 use Rattle.audit.specs.contracts.Answers.{audited}
 use Rattle.audit.specs.declared.Audit.{Audit}
-use Rattle.audit.proofs.Laws.{used-then}
+use Rattle.audit.proofs.Laws.{entered-then}
 
 -- a chunk, by whether it has a bitmap
 module _ (c : Container) (p : Pool) (ch : Chunk) (s : Marked Audit) where
@@ -53,31 +50,10 @@ module _ (c : Container) (p : Pool) (b : List ℕ) (i : ℕ) (s : Marked Audit) 
 pub chunks-first : (c : Container) (p : Pool) (b : List ℕ) (n : ℕ) (s : Marked Audit) → n ≡ chunkCount b → auditChunks c p (records b n (chunksAt + chunkLength * 0)) s ≡ auditChunks c p (records b (chunkCount b) chunksAt) s
 chunks-first c p b n s e = rw e refl
 
--- the blocks of a list of addresses from one on, of which left are left
-module _ (c : Container) (p : Pool) (sm : List ℕ) (off i : ℕ) (s : Marked Audit) where
-  pub infos-done : (left : ℕ) → left ≡ 0 → auditInfos c p (values 8 sm left (off + 8 * i)) s ≡ done s
-  unfolding auditInfos values
-  infos-done left e = rw e refl
-
-  pub infos-more : (left : ℕ) (a : Address) → a .0 ≡ num 8 sm (off + 8 * i) → 0 < left
-      → auditInfos c p (values 8 sm left (off + 8 * i)) s ≡ auditInfo c p a s >>= auditInfos c p (values 8 sm (left - 1) (off + 8 * (i + 1)))
-  unfolding auditInfos values
-  infos-more zero a e h = absurd (omega arith)
-  infos-more (suc left) a e h = rw (← e, at, less) refl
-    where
-      at : off + 8 * i + 8 ≡ off + 8 * (i + 1)
-      at = omega arith
-
-      less : suc left - 1 ≡ left
-      less = omega arith
-
-pub infos-first : (c : Container) (p : Pool) (sm : List ℕ) (off n m : ℕ) (s : Marked Audit) → n ≡ m → auditInfos c p (values 8 sm n (off + 8 * 0)) s ≡ auditInfos c p (values 8 sm m off) s
-infos-first c p sm off n m s e = rw (e, add-zero) refl
-
 -- a chunk-info block whose records are there
 pub info-there : {f : ℕ → List ℕ} {count : ℕ} {ending : Ending} {between after : List ℕ} {figures : Audit} (c : Container) (p : Pool) (a : Address) (map : List ℕ) (audit : Audit) (b : List ℕ)
     → run f (chunksOf b) ≡ given (records b (chunkCount b) chunksAt) → a .0 < count → between ≡ update used (a .0) map
     → Stepped f count ending between after figures (auditChunks c p (records b (chunkCount b) chunksAt) (audited between audit))
     → Stepped f count ending map after figures (enterInfo c p a (audited map audit) b)
-unfolding enterInfo enter
-info-there c p a map audit b q below e h = given-then (used-then (rw e at h) (a .0) map refl below) _ _ _ q refl
+unfolding enterInfo
+info-there c p a map audit b q below e h = entered-then a map audit below e (chunksOf b) _ (auditChunks c p) q h

@@ -19,7 +19,7 @@ use Rattle.report.specs.declared.Cursor.{Cursor}
 use Rattle.report.specs.declared.ProblemLog.{ProblemLog}
 use Rattle.report.specs.declared.Ending.{Ending}
 use Rattle.report.specs.declared.Ending.the-variants.{Done, Refused}
-use Rattle.report.proofs.StepLaws.{stays-done, stays-refused}
+use Rattle.report.proofs.StepLaws.{stays-done, stays-refused, given-then}
 use Rattle.audit.specs.Audit.{withProblems, unless, enter}
 use Rattle.audit.specs.contracts.Answers.{audited}
 use Rattle.audit.specs.declared.Audit.{Audit}
@@ -61,6 +61,13 @@ module _ (n i : ℕ) where
 pub entered : (f : ℕ → List ℕ) (count : ℕ) (ending : Ending) (map after : List ℕ) (audit : Audit) (a : ℕ) → ending ≡ Done → after ≡ update used a map → a < count → Stepped f count ending map after audit (done (enter a (audited map audit)))
 unfolding run enter
 entered f count ending map after audit a d e below = rw (d, e) (record { goes = refl; kept = kept-update count used a map below })
+
+-- what a block that is entered as used lists, once it is read whole
+module _ {f : ℕ → List ℕ} {count : ℕ} {ending : Ending} {between after : List ℕ} {figures : Audit} (a : Address) (map : List ℕ) (audit : Audit) (below : a .0 < count) (e : between ≡ update used (a .0) map) where
+  pub entered-then : {L : Type 0} (q : Reads L) (l : L) (rest : L → Marked Audit → Reads (Marked Audit)) → run f q ≡ given l → Stepped f count ending between after figures (rest l (audited between audit))
+      → Stepped f count ending map after figures (q >>= λ l. rest l (enter (a .0) (audited map audit)))
+  unfolding enter
+  entered-then q l rest g h = given-then (used-then (rw e at h) (a .0) map refl below) _ _ _ g refl
 
 -- a problem, by the test that it waits on
 pub unless-is : {f : ℕ → List ℕ} {count : ℕ} {ending : Ending} {map : List ℕ} {audit : Audit} (kind a : ℕ) (s : Marked Audit) (ok test : Bool) → ok ≡ test → Stepped f count ending map map audit (unless ok kind a s) → Stepped f count ending map map audit (unless test kind a s)

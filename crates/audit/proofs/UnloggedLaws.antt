@@ -17,7 +17,7 @@ use Rattle.block_map.specs.contracts.Maps.{Kept, Unlogged}
 use Rattle.block_map.specs.BlockMap.{update, usedAt, used}
 use Rattle.block_map.proofs.Laws.{update-other, was-made, kept-same, kept-then, kept-update}
 use Rattle.pool.specs.Pool.{Pool, poolMarked}
-use Rattle.audit.specs.Audit.{unless, auditUse, enter, auditQueuedBlock, auditQueuedFrom, auditQueued}
+use Rattle.audit.specs.Audit.{unless, auditMark, auditUse, enter, auditQueuedBlock, auditQueuedFrom, auditQueued}
 use Rattle.audit.specs.contracts.Unlogged.{allUnused, usedFrom, unloggedRun}
 use Rattle.audit.specs.declared.Audit.{Audit}
 use Rattle.audit.proofs.Laws.{none-left, one-less}
@@ -36,7 +36,7 @@ module _ (c : Container) (p : Pool) where
   -- a block that is unused and marked logs nothing, and so do all
   one-unlogged : (left a : ℕ) (map : List ℕ) (figures : Audit) → not (usedAt c map a) ≡ true → poolMarked p a ≡ true
       → auditQueuedFrom c p (suc left) a (record { map = map; figures = figures }) ≡ auditQueuedFrom c p left (a + 1) (record { map = update used a map; figures = figures })
-  unfolding auditQueuedFrom auditQueuedBlock auditUse unless enter _>>=_
+  unfolding auditQueuedFrom auditQueuedBlock auditUse auditMark unless enter _>>=_
   one-unlogged left a map figures unused marked = rw (marked, unused) refl
 
   all-unlogged : (f : ℕ → List ℕ) (left a : ℕ) (map : List ℕ) (figures : Audit) → allUnused c p map left a ≡ true

@@ -12,7 +12,7 @@ use Rattle.blocks.specs.declared.Address.{Address}
 use Rattle.blocks.specs.declared.Container.{Container}
 use Rattle.blocks.specs.declared.Refusal.the-variants.{BadBitmap, Overflow}
 use Rattle.nodes.specs.Node.{Entry}
-use Rattle.manager.specs.Manager.{chunkInfos}
+use Rattle.manager.specs.Manager.{hasAddressBlocks, listed, addressesOf}
 use Rattle.manager.specs.Chunks.{chunksOf}
 use Rattle.manager.specs.declared.Chunk.{Chunk}
 use Rattle.block_map.specs.BlockMap.{Marked, update, usedAt, marked, used}
@@ -38,6 +38,10 @@ queuedUnmarked = 4
 abbrev pub queuedInUse : ℕ
 queuedInUse = 5
 
+-- document 02: "An unmarked one is problem 6."
+abbrev pub addressUnmarked : ℕ
+addressUnmarked = 6
+
 -- what is counted: nothing yet; other problems; other counts of free blocks and of chunks whose count differs
 abbrev pub noAudit : Audit
 noAudit = record { problems = noProblems; free = 0; wrong = 0 }
@@ -55,9 +59,13 @@ unless false kind a s = do
   l ← addProblem (record { kind = kind; block = a }) (s .figures .problems)
   done (record { map = s .map; figures = withProblems l (s .figures) })
 
--- block a: its mark in the pool's bitmap, then whether it is used already
+-- block a: its mark in the pool's bitmap
+unfoldable pub auditMark : Pool → ℕ → ℕ → Marked Audit → Reads (Marked Audit)
+auditMark p unmarked a s = unless (poolMarked p a) unmarked a s
+
+-- its mark, then whether it is used already
 unfoldable pub auditUse : Container → Pool → ℕ → ℕ → ℕ → Marked Audit → Reads (Marked Audit)
-auditUse c p unmarked inUse a s = unless (poolMarked p a) unmarked a s >>= λ s₁. unless (not (usedAt c (s₁ .map) a)) inUse a s₁
+auditUse c p unmarked inUse a s = auditMark p unmarked a s >>= λ s₁. unless (not (usedAt c (s₁ .map) a)) inUse a s₁
 
 -- block a used in the pool
 unfoldable pub enter : ℕ → Marked Audit → Marked Audit
@@ -120,15 +128,33 @@ readInfo c p a s = readRaw c a >>= enterInfo c p a s
 
 -- "1 chunk-info block unmarked"; "A chunk-info block named again is no problem."
 unfoldable pub auditInfo : Container → Pool → Address → Marked Audit → Reads (Marked Audit)
-auditInfo c p a s = unless (poolMarked p (a .0)) infoUnmarked (a .0) s >>= readInfo c p a
+auditInfo c p a s = auditMark p infoUnmarked (a .0) s >>= readInfo c p a
 
-unfoldable pub auditInfos : Container → Pool → List ℕ → Marked Audit → Reads (Marked Audit)
-auditInfos c p [] s = done s
-auditInfos c p (a ∷ rest) s = auditInfo c p (record { 0 = a }) s >>= auditInfos c p rest
+-- the blocks that a list names, one after the other
+unfoldable pub auditEach : (Address → Marked Audit → Reads (Marked Audit)) → List ℕ → Marked Audit → Reads (Marked Audit)
+auditEach visit [] s = done s
+auditEach visit (a ∷ rest) s = visit (record { 0 = a }) s >>= auditEach visit rest
 
--- the main device: the chunk-info blocks that its manager lists, in their order
+-- an address block, once it was read: its whole list comes before the first block of it. Document 02: it "is entered as used", and
+-- "its chunk-info blocks are audited before the next address block"
+unfoldable pub enterAddress : Container → Pool → Address → Marked Audit → List ℕ → Reads (Marked Audit)
+enterAddress c p a s b = addressesOf b >>= λ infos. auditEach (auditInfo c p) infos (enter (a .0) s)
+
+-- document 02: it "is read without a checksum"
+unfoldable pub readAddress : Container → Pool → Address → Marked Audit → Reads (Marked Audit)
+readAddress c p a s = readRaw c a >>= enterAddress c p a s
+
+-- document 02: "An address block must be pool-marked"
+unfoldable pub auditAddress : Container → Pool → Address → Marked Audit → Reads (Marked Audit)
+auditAddress c p a s = auditMark p addressUnmarked (a .0) s >>= readAddress c p a
+
+-- the main device: the address blocks that its manager lists, or the chunk-info blocks, in their order
+unfoldable pub auditListed : Container → Pool → Bool → List ℕ → Marked Audit → Reads (Marked Audit)
+auditListed c p true l s = auditEach (auditAddress c p) l s
+auditListed c p false l s = auditEach (auditInfo c p) l s
+
 unfoldable pub auditDevice : Container → Pool → List ℕ → Marked Audit → Reads (Marked Audit)
-auditDevice c p sm s = chunkInfos sm >>= λ infos. auditInfos c p infos s
+auditDevice c p sm s = listed sm >>= λ l. auditListed c p (hasAddressBlocks sm) l s
 
 -- a block in the pool queue: "4 queued block unmarked; 5 queued block already used"
 unfoldable pub auditQueuedBlock : Container → Pool → ℕ → Marked Audit → Reads (Marked Audit)

@@ -1,4 +1,4 @@
-// The main device's chunks: those of each chunk-info block that the manager lists.
+// Chunk-info blocks, each with its chunks.
 use crate::Audit;
 use crate::AuditStep;
 use crate::Audited;
@@ -7,6 +7,7 @@ use crate::problems;
 use blocks::Address;
 use blocks::Container;
 use blocks::Presence;
+use manager::AddressList;
 use manager::Chunk;
 use pool::PoolPlace;
 use report::Cursor;
@@ -16,7 +17,7 @@ ghost use Prim.Native.Nat.{_<_};
 ghost use Rattle.blocks.specs.contracts.Images.{bytes};
 ghost use Rattle.report.specs.contracts.Steps.{Ahead};
 ghost use Rattle.audit.specs.Audit.{auditBitmap, auditChunk, enterInfo, readInfo, auditInfo};
-ghost use Rattle.audit.specs.contracts.Answers.{AuditsAs, AuditsNext, poolAt, chunksLeft, chunksIn, infosLeft, infosIn, deviceIn};
+ghost use Rattle.audit.specs.contracts.Answers.{AuditsAs, AuditsNext, poolAt, chunksLeft, chunksIn, eachLeft, eachIn};
 
 // A chunk that has a bitmap.
 fn audit_bitmap(
@@ -169,8 +170,8 @@ fn audit_info(
 ) -> Audited
     ensures { λ r. ⌜ AuditsAs image map container audit r (λ f. auditInfo container (poolAt container place f) address) ⌝ }
 {
-    let marked = pool::pool_marked(image, container, place, address.0);
-    let audited = problems::unless(marked, problems::INFO_UNMARKED, address.0, audit);
+    let unmarked = problems::INFO_UNMARKED;
+    let audited = problems::audit_mark(image, container, place, unmarked, address.0, audit);
     let ending = audited.ending;
     match ending {
         Ending::Refused(_) => audited,
@@ -181,40 +182,40 @@ fn audit_info(
     }
 }
 
-// The chunk-info block at a cursor in the manager's list.
+// The chunk-info block at a cursor in a list.
 fn info_next(
     image: &[u8],
     map: &mut [u8],
     container: Container,
     place: PoolPlace,
+    list: AddressList,
     at: Cursor,
     audit: Audit,
 ) -> AuditStep
     requires { ⌜ Ahead at ⌝ }
-    ensures { λ r. ⌜ AuditsNext image map container at audit r (infosLeft container place) ⌝ }
+    ensures { λ r. ⌜ AuditsNext image map container at audit r (eachLeft auditInfo container place list) ⌝ }
 {
-    let m = place.manager;
-    let a = manager::lists::chunk_info(image, container, m, at.next);
+    let a = manager::addresses::address_at(image, container, list, at.next);
     let audited = audit_info(image, map, container, place, a, audit);
     problems::past(audited, at)
 }
 
-// The chunk-info blocks of a list that lies inside the manager.
-fn audit_listed(
+// The chunk-info blocks of a list that is there.
+pub(crate) fn audit_infos(
     image: &[u8],
     map: &mut [u8],
     container: Container,
     place: PoolPlace,
+    list: AddressList,
     audit: Audit,
 ) -> Audited
-    ensures { λ r. ⌜ AuditsAs image map container audit r (infosIn container place) ⌝ }
+    ensures { λ r. ⌜ AuditsAs image map container audit r (eachIn auditInfo container place list) ⌝ }
 {
-    let m = place.manager;
-    let n = manager::place::u32_of(image, container, m, manager::offsets::CHUNK_INFO_COUNT);
+    let n = list.count;
     let mut found = audit;
     let mut at = Cursor { next: 0, left: n };
     while at.left != 0 {
-        let audited = info_next(image, map, container, place, at, found);
+        let audited = info_next(image, map, container, place, list, at, found);
         let step = audited.step;
         match step {
             Step::Refused(r) => return problems::refused(r, found),
@@ -225,22 +226,4 @@ fn audit_listed(
         }
     }
     problems::done(found)
-}
-
-// The main device: its list is read whole before the first of its blocks.
-pub fn audit_device(
-    image: &[u8],
-    map: &mut [u8],
-    container: Container,
-    place: PoolPlace,
-    audit: Audit,
-) -> Audited
-    ensures { λ r. ⌜ AuditsAs image map container audit r (deviceIn container place) ⌝ }
-{
-    let m = place.manager;
-    let seen = manager::lists::chunk_infos(image, container, m);
-    match seen {
-        Presence::Refused(r) => problems::refused(r, audit),
-        Presence::There => audit_listed(image, map, container, place, audit),
-    }
 }

@@ -4,7 +4,8 @@ use report::ProblemLog;
 use report::Step;
 
 mod bitmap;
-pub mod chunks;
+mod chunks;
+pub mod device;
 pub mod problems;
 pub mod queued;
 pub mod unlogged;

@@ -13,7 +13,8 @@ use report::logs;
 use report::steps;
 ghost use mathlib.Core.Path.{_≡_};
 ghost use Rattle.report.specs.contracts.Steps.{pastOf};
-ghost use Rattle.audit.specs.Audit.{noAudit, withProblems, unless as unlessOf, auditUse};
+ghost use Rattle.pool.specs.contracts.Place.{poolOn};
+ghost use Rattle.audit.specs.Audit.{noAudit, withProblems, unless as unlessOf, auditMark, auditUse};
 ghost use Rattle.audit.specs.contracts.Answers.{Anywhere, AuditsStill, poolAt};
 
 pub(crate) const INFO_UNMARKED: u8 = 1;
@@ -25,6 +26,8 @@ pub(crate) const BITMAP_IN_USE: u8 = 3;
 pub(crate) const QUEUED_UNMARKED: u8 = 4;
 
 pub(crate) const QUEUED_IN_USE: u8 = 5;
+
+pub(crate) const ADDRESS_UNMARKED: u8 = 6;
 
 pub fn nothing_audited() -> Audit
     ensures { λ r. ⌜ r ≡ noAudit ⌝ }
@@ -95,6 +98,21 @@ pub(crate) fn unless(ok: bool, kind: u8, number: u64, audit: Audit) -> Audited
     }
 }
 
+// A problem unless the pool's bitmap marks the block: the same test for every sort of block.
+pub(crate) fn audit_mark(
+    image: &[u8],
+    container: Container,
+    place: PoolPlace,
+    unmarked: u8,
+    block: u64,
+    audit: Audit,
+) -> Audited
+    ensures { λ r. ⌜ Anywhere audit r (auditMark (poolOn image container place) unmarked block) ⌝ }
+{
+    let marked = pool::pool_marked(image, container, place, block);
+    unless(marked, unmarked, block, audit)
+}
+
 // The mark of the block, and then whether it is used already, each a problem of its own.
 pub(crate) fn audit_use(
     image: &[u8],
@@ -108,8 +126,7 @@ pub(crate) fn audit_use(
 ) -> Audited
     ensures { λ r. ⌜ AuditsStill image map container audit r (λ f. auditUse container (poolAt container place f) unmarked in_use block) ⌝ }
 {
-    let marked = pool::pool_marked(image, container, place, block);
-    let audited = unless(marked, unmarked, block, audit);
+    let audited = audit_mark(image, container, place, unmarked, block, audit);
     let ending = audited.ending;
     match ending {
         Ending::Refused(_) => audited,

@@ -1,7 +1,7 @@
--- The paper's number of each refusal ("Refused, in checking order").
+-- The paper's number of each refusal ("Refused, in checking order"); document 02: "Refusal 19 is never given again."
 use Prim.Native.Nat.{ℕ}
 use Rattle.blocks.specs.declared.Refusal.{Refusal}
-use Rattle.blocks.specs.declared.Refusal.the-variants.{ShortImage, NoMagic, BlockSize, BlockCount, MissingBlocks, ShortMap, DescriptorLength, DescriptorArea, NoCheckpoint, Incompatible, CountDiffers, PastContainer, BadChecksum, WrongKind, BadNode, Unmapped, OutsideBytes, WrongLevel, AddressBlocks, BadBitmap, Overflow, TooManyNodes}
+use Rattle.blocks.specs.declared.Refusal.the-variants.{ShortImage, NoMagic, BlockSize, BlockCount, MissingBlocks, ShortMap, DescriptorLength, DescriptorArea, NoCheckpoint, Incompatible, CountDiffers, PastContainer, BadChecksum, WrongKind, BadNode, Unmapped, OutsideBytes, WrongLevel, BadBitmap, Overflow, TooManyNodes}
 
 abbrev pub numberOf : Refusal → ℕ
 numberOf ShortImage = 1
@@ -22,7 +22,6 @@ numberOf BadNode = 15
 numberOf Unmapped = 16
 numberOf OutsideBytes = 17
 numberOf WrongLevel = 18
-numberOf AddressBlocks = 19
 numberOf BadBitmap = 20
 numberOf Overflow = 21
 numberOf TooManyNodes = 22

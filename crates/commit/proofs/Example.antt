@@ -1,18 +1,19 @@
 -- The rules can be kept: a commit of transaction 8 on the 16-block container, its map and its superblock in the two free
 -- blocks of the descriptor area. The finished image's answer is another than the old one's. ExampleCuts.antt cuts it.
 use mathlib.Core.Path.{_≡_, refl, sym, ap, _∙_}
-use mathlib.Core.Bool.{true, false, true≢false}
+use mathlib.Core.Bool.{Bool, true, false, true≢false}
 use mathlib.Core.List.{List, [], _∷_}
 use mathlib.Core.Logic.{_≢_}
 use Prim.Native.Nat.{ℕ, zero, suc, _+_, _*_, _<_}
 use native.Mathlib.Omega.{arith}
-use lib.ListN.{replicate}
+use lib.ListN.{length, take, replicate}
 use Rattle.fields.specs.Header.{xidOf}
 use Rattle.fields.proofs.Rows.{Row, blockFrom}
-use Rattle.blocks.specs.Reads.{visits}
+use Rattle.blocks.specs.Reads.{run, noBlocks, given, visits}
 use Rattle.blocks.specs.Blocks.{blockOf}
 use Rattle.checkpoint.specs.Superblock.{sound}
-use Rattle.checkpoint.specs.Checkpoint.{Taken}
+use Rattle.checkpoint.specs.Geometry.{geometry, leastSize}
+use Rattle.checkpoint.specs.Checkpoint.{Taken, takeSuperblock}
 use Rattle.checkpoint.specs.declared.Geometry.{Geometry}
 use Rattle.space_check.specs.Check.{check}
 use Rattle.samples.proofs.Computing.{computed}
@@ -35,7 +36,7 @@ newMap n = stored n (checkpointMap 4 0x804fc1d4bfb029fa 8)
 
 unfoldable pub newSuperblock : Store
 unfolding blockFrom superblock
-newSuperblock = stored 4 (superblock 4 0x3b161c620296771b 8 2)
+newSuperblock = stored 4 (superblock 4 0 0x3b161c620296771b 8 2)
 
 -- the new map in block 3, then the new superblock in block 4
 unfoldable pub commit : List Store
@@ -46,13 +47,16 @@ commit = newMap 3 ∷ newSuperblock ∷ []
 abbrev pub layout : Geometry
 layout = record { size = blockBytes; count = 16; base = 1; ring = 4 }
 
--- the superblock in block 2, at index 1, and its map
-abbrev pub taken : Taken
-taken = record {
-  sb = blockOf roomy blockBytes 2;
+-- the superblock in block 2 of an image, at index 1, and its map
+abbrev pub takenOf : List ℕ → Taken
+takenOf image = record {
+  sb = blockOf image blockBytes 2;
   at = 1;
   map = record { id = record { 0 = managerId }; size = blockBytes; address = record { 0 = managerBlock 4 } } ∷ [];
 }
+
+abbrev pub taken : Taken
+taken = takenOf roomy
 
 -- a claim about each index of the descriptor area
 pub each-index : (P : ℕ → Type 0) → P 0 → P 1 → P 2 → P 3 → (j : ℕ) → j < 4 → P j
@@ -67,14 +71,28 @@ abbrev pub LimitAt : List Store → List ℕ → ℕ → Type 0
 LimitAt ss cut j =
     blockTouched ss blockBytes (1 + j) ≡ true → sound (blockOf cut blockBytes (1 + j)) ≡ true → xidOf (blockOf cut blockBytes (1 + j)) < xidOf (taken .sb)
 
--- the superblock in block 2, at index 1, is the only sound one
-only-sound : (j : ℕ) → j < 4 → j ≢ 1 → sound (blockOf roomy blockBytes (1 + j)) ≡ false
-unfolding computed roomy
-only-sound = each-index (λ j. j ≢ 1 → sound (blockOf roomy blockBytes (1 + j)) ≡ false) (λ _. refl) (λ ne. absurd (ne refl)) (λ _. refl) (λ _. refl)
+-- it is taken where it is the only sound one
+module _ (image : List ℕ) where
+  abbrev soundAt : ℕ → Bool
+  soundAt j = sound (blockOf image blockBytes (1 + j))
+
+  pub takes-by : run (blockOf image blockBytes) (takeSuperblock layout) ≡ given (takenOf image) → soundAt 0 ≡ false → soundAt 2 ≡ false → soundAt 3 ≡ false
+      → Takes (blockOf image blockBytes) layout (takenOf image)
+  takes-by e a b c = record { taken = e; highest = λ j h ne s. absurd (true≢false (sym s ∙ only j h ne)) }
+    where
+      only : (j : ℕ) → j < 4 → j ≢ 1 → soundAt j ≡ false
+      only = each-index (λ j. j ≢ 1 → soundAt j ≡ false) (λ _. a) (λ ne. absurd (ne refl)) (λ _. b) (λ _. c)
+
+  -- and what touches none of the blocks that must stay keeps the rules
+  abbrev pub rules-by : (ss : List Store) → run noBlocks (geometry (length image) (take leastSize image) (length handed)) ≡ given layout
+      → Takes (blockOf image blockBytes) layout (takenOf image)
+      → noneOf (blockTouched ss blockBytes) (kept (blockOf image blockBytes) layout handed (takenOf image)) ≡ true
+      → Rules image handed ss
+  rules-by ss e t stay = record { g = layout; t = takenOf image; opens = e; takes = t; untouched = kept-enough (blockOf image blockBytes) layout handed (takenOf image) t ss stay }
 
 pub takes : Takes (blockOf roomy blockBytes) layout taken
 unfolding computed roomy
-takes = record { taken = refl; highest = λ j h ne e. absurd (true≢false (sym e ∙ only-sound j h ne)) }
+takes = takes-by roomy refl refl refl refl
 
 pub stays : noneOf (blockTouched commit blockBytes) (kept (blockOf roomy blockBytes) layout handed taken) ≡ true
 unfolding computed visits roomy commit kept noneOf touched touchedFrom blockTouched
@@ -82,13 +100,7 @@ stays = refl
 
 unfoldable pub rules : Rules roomy handed commit
 unfolding computed roomy
-rules = record {
-  g = layout;
-  t = taken;
-  opens = refl;
-  takes = takes;
-  untouched = kept-enough (blockOf roomy blockBytes) layout handed taken takes commit stays;
-}
+rules = rules-by roomy commit refl takes stays
 
 pub old-xid : check roomy handed .answer .report .xid ≡ 7
 unfolding computed roomy

@@ -26,7 +26,7 @@ use Rattle.commit.proofs.Example.{handed, stored, newMap, newSuperblock
 -- The limit is needed: touched bytes may hold anything, here the map and the superblock of a transaction 9.
 
 abbrev strayStores : List Store
-strayStores = stored 3 (checkpointMap 4 0x804fc5d0bfb025fd 9) ∷ stored 4 (superblock 4 0x3b16205e0296731e 9 2) ∷ []
+strayStores = stored 3 (checkpointMap 4 0x804fc5d0bfb025fd 9) ∷ stored 4 (superblock 4 0 0x3b16205e0296731e 9 2) ∷ []
 
 unfoldable pub stray : List ℕ
 unfolding blockFrom superblock checkpointMap overwrite finished
@@ -68,7 +68,7 @@ limit-needed h = stray-differs (two-before roomy handed commit stray (h roomy ha
 
 unfoldable pub reused : List Store
 unfolding blockFrom superblock newMap
-reused = newMap 1 ∷ stored 4 (superblock 4 0x3b1614a602967ed9 8 0) ∷ []
+reused = newMap 1 ∷ stored 4 (superblock 4 0 0x3b1614a602967ed9 8 0) ∷ []
 
 pub read-twice : timesRead 1 (blocksRead (blockOf roomy blockBytes) layout handed) ≡ 2
 unfolding computed visits roomy blocksRead timesRead

@@ -1,4 +1,4 @@
--- The theorem about two runs, what it is proved from, and an example that keeps its rules and two that break them.
+-- The theorem about two runs, what it is proved from, and examples that keep its rules and that break them.
 pub mod Stores
 pub mod Cuts
 pub mod Choice
@@ -8,3 +8,4 @@ pub mod Crash
 pub mod Example
 pub mod ExampleCuts
 pub mod ExampleNeeds
+pub mod ExampleAddressed

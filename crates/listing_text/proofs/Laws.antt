@@ -85,6 +85,14 @@ module _ (t : Bool) (a b : List ℕ) (x w : Written) where
   pub put-false : t ≡ false → x ≡ put b w → x ≡ put (pick t a b) w
   put-false e p = rw e p
 
+-- pieces by a test
+module _ (t : Bool) (ts us : List (List ℕ)) (x w : Written) where
+  pub all-true : t ≡ true → x ≡ putAll ts w → x ≡ putAll (pick t ts us) w
+  all-true e p = rw e p
+
+  pub all-false : t ≡ false → x ≡ putAll us w → x ≡ putAll (pick t ts us) w
+  all-false e p = rw e p
+
 -- a piece, and a format, by a table's row
 pub put-row : (text name : List ℕ) (x w : Written) → text ≡ name → x ≡ put text w → x ≡ put name w
 put-row text name x w e p = rw (← e) p

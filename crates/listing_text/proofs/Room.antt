@@ -20,7 +20,7 @@ use Rattle.report.specs.declared.Ending.the-variants.{Done, Refused}
 use Rattle.report.specs.declared.Answer.{Answer}
 use Rattle.totals.specs.Totals.{consistent}
 use Rattle.listing_text.specs.Text.{placesFrom, mostDigits, numeral}
-use Rattle.listing_text.specs.Lines.{decimalSign, hexSign, nameSign, kindNames, kindName, piece, taken, filledFrom, problemFormats, problemFormat, titleLine, poolLine, bitmapsLine, overlapsLine, lostLine, leakedLine, resultLine, refusedLine}
+use Rattle.listing_text.specs.Lines.{decimalSign, hexSign, nameSign, kindNames, kindName, piece, taken, filledFrom, problemFormats, problemFormat, lastFormat, titleLine, poolLine, bitmapsLine, overlapsLine, lostLine, leakedLine, resultLine, refusedLine}
 use Rattle.listing_text.specs.Listing.{named, problemLineOf, overlapLineOf, placesByName, lostAt, lostKindLineOf, lostTotal, reportLines, answerLines, listingOf}
 use Rattle.listing_text.proofs.Tables.{at-each}
 
@@ -147,10 +147,17 @@ refused-line : (number : ℕ) → Fits 1 (refusedLine number)
 unfolding formatBytes mostOf
 refused-line number = by-format _ _ (lit≤ tt)
 
+-- one line or another
+either : (t : Bool) {ts us : List (List ℕ)} → Fits 1 ts → Fits 1 us → Fits 1 (pick t ts us)
+either true h k = h
+either false h k = k
+
 problem-line : (p : Problem) → Fits 1 (problemLineOf p)
 unfolding problemFormat problemFormats formatBytes mostOf flatten
 problem-line p =
-    format-and (problemFormat (p .kind)) _ _ 1 (lit≤ tt) (lit≤ (at-each (λ format. leb (formatBytes format + 1) lineBytes) problemFormats (p .kind) tt tt))
+    either (leb (p .kind) lastFormat)
+    (format-and (problemFormat (p .kind)) _ _ 1 (lit≤ tt) (lit≤ (at-each (λ format. leb (formatBytes format + 1) lineBytes) problemFormats (p .kind) tt tt)))
+    (by-format _ _ (lit≤ tt))
 
 overlap-line : (o : Overlap) → Fits 1 (overlapLineOf o)
 unfolding formatBytes mostOf
@@ -162,11 +169,7 @@ bitmaps-line free wrong device = format-and _ _ _ 17 (one-of (eqb free device) _
 
 lost-kind : (lost : List Lost) (place : ℕ) → Fits 1 (lostKindLineOf lost place)
 unfolding lostKindLineOf formatBytes mostOf flatten
-lost-kind lost place = none-or (eqb (lostAt lost place .count) 0) (by-format _ _ (lit≤ tt))
-  where
-    none-or : (t : Bool) {ts : List (List ℕ)} → Fits 1 ts → Fits 1 (pick t [] ts)
-    none-or true h = record { most = zero-le }
-    none-or false h = h
+lost-kind lost place = either (eqb (lostAt lost place .count) 0) (record { most = zero-le }) (by-format _ _ (lit≤ tt))
 
 result-line : (verdict : ℕ) → Fits 1 (resultLine verdict)
 result-line verdict = text-and _ _ 68 (one-of (eqb verdict consistent) _ _ 68 (lit≤ tt) (lit≤ tt)) (lit≤ tt)

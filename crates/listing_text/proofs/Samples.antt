@@ -15,15 +15,15 @@ use Rattle.report.specs.declared.Report.{Report}
 use Rattle.totals.specs.Totals.{inconsistent, lostIn}
 use Rattle.totals.specs.contracts.Counting.{noLost}
 use Rattle.listing_text.specs.Text.{ascii, placesFrom, numeral, decimal, hex}
-use Rattle.listing_text.specs.Lines.{kindNames, kindName, piece, taken, filledFrom, problemFormats, problemFormat}
+use Rattle.listing_text.specs.Lines.{kindNames, kindName, piece, taken, filledFrom, problemFormats, problemFormat, problemLine}
 use Rattle.listing_text.specs.Listing.{placesByName, lostKindLineOf, reportLines, answerLines, listingOf}
 
 unfoldable pub computed : Answer → List ℕ
 unfolding noProblems noOverlaps zeroReport refusal reported lostIn placesFrom numeral kindNames kindName piece taken filledFrom problemFormats problemFormat flatMap flatten placesByName lostKindLineOf reportLines answerLines listingOf
 computed a = listingOf a
 
--- compare's image seed-2255, with the original's lines but for the size for people, and with document 01's last: a problem, overlaps,
--- a lost block
+-- the report of a damaged container, with the original's lines but for the size for people, and with document 01's last: a problem,
+-- overlaps, a lost block
 overlap : ℕ → ℕ → ℕ → Overlap
 overlap block owner claimant = record { block = block; owner = owner; claimant = claimant }
 
@@ -67,6 +67,12 @@ every-line : listingOf (reported damaged)
     ++ ascii "result     inconsistent\n"
 unfolding computed damaged
 every-line = refl
+
+-- the last of the Rust's problems, document 02's line for the first that it adds, and one for a kind that there may be later
+problem-lines : flatten (problemLine 5 0x1f ++ problemLine 6 0x1f ++ problemLine 12 0)
+    ≡ ascii "  internal-pool block 0x1f queued but still in use\n  problem 6 at 0x1f\n  problem 12 at 0x0\n"
+unfolding computed
+problem-lines = refl
 
 -- "or only `refused N`"
 first-refusal : listingOf (refusal ShortImage) ≡ ascii "refused 1\n"

@@ -1,9 +1,10 @@
--- The lines of the listing: "Problem, overlap and lost lines are the Rust's" (dump.rs, `space_check_container`), the others as document
--- 01's sample has them. Each is a format with its figures, in the pieces that it is put together from.
+-- The lines of the listing: "Problem, overlap and lost lines are the Rust's" (dump.rs, `space_check_container`), those of problems
+-- that it doesn't have are document 02's, the others as document 01's sample has them. Each is a format with its figures, in the
+-- pieces that it is put together from.
 use mathlib.Core.List.{List, [], _∷_, _++_}
 use Prim.Native.Nat.{ℕ, _+_}
 use Prim.Native.Char.{code}
-use lib.Dec.{eqb}
+use lib.Dec.{leb, eqb}
 use lib.ListN.{getD}
 use Rattle.fields.specs.Choice.{pick}
 use Rattle.totals.specs.Totals.{consistent}
@@ -61,7 +62,7 @@ abbrev pub poolLine : ℕ → ℕ → ℕ → List (List ℕ)
 poolLine used unused problems =
     filled (ascii "internal pool  # blocks in use, # marked but unused, # problems\n") (used ∷ unused ∷ problems ∷ [])
 
--- problems, by their numbers
+-- the Rust's problems, by their numbers
 unfoldable pub problemFormats : List (List ℕ)
 problemFormats =
     []
@@ -75,8 +76,17 @@ problemFormats =
 unfoldable pub problemFormat : ℕ → List ℕ
 problemFormat kind = getD problemFormats kind []
 
+-- the last of them
+abbrev pub lastFormat : ℕ
+lastFormat = 5
+
+abbrev pub problemText : ℕ → ℕ → List (List ℕ)
+problemText kind block = filled (problemFormat kind) (block ∷ [])
+
+-- document 02: "New problem kinds, here and later, print as `  problem 6 at 0x1f`: kind, then block."
 abbrev pub problemLine : ℕ → ℕ → List (List ℕ)
-problemLine kind block = filled (problemFormat kind) (block ∷ []) ++ (ascii "\n" ∷ [])
+problemLine kind block =
+    pick (leb kind lastFormat) (problemText kind block ++ (ascii "\n" ∷ [])) (filled (ascii "  problem # at 0x@\n") (kind ∷ block ∷ []))
 
 -- "`DOES NOT MATCH` where the counted free blocks and the device's free count differ"
 abbrev pub bitmapsLine : ℕ → ℕ → ℕ → List (List ℕ)

@@ -2,10 +2,13 @@
 use crate::formats::put_line;
 use crate::rows::row;
 use crate::text::put_text;
-ghost use Rattle.listing_text.specs.Lines.{titleLine, poolLine, problemLine, bitmapsLine, overlapsLine, overlapLine, lostLine, lostKindLine, leakedLine, resultLine, refusedLine};
+ghost use Rattle.listing_text.specs.Lines.{titleLine, poolLine, problemText, problemLine, bitmapsLine, overlapsLine, overlapLine, lostLine, lostKindLine, leakedLine, resultLine, refusedLine};
 ghost use Rattle.listing_text.specs.contracts.Writing.{Puts};
 
 const CONSISTENT: u8 = 1;
+
+// The last of the Rust's problems.
+const LAST_FORMAT: u8 = 5;
 
 pub(crate) fn title_line(out: &mut [u8], at: usize, xid: u64) -> usize
     ensures { λ r. ⌜ Puts out at r (titleLine xid) ⌝ }
@@ -26,9 +29,9 @@ pub(crate) fn pool_line(out: &mut [u8], at: usize, used: u64, unused: u64, probl
     )
 }
 
-// Other numbers have an empty line; the check gives none.
-pub(crate) fn problem_line(out: &mut [u8], at: usize, problem: u8, block: u64) -> usize
-    ensures { λ r. ⌜ Puts out at r (problemLine problem block) ⌝ }
+// One of the Rust's problems. Other numbers have no text.
+fn put_problem(out: &mut [u8], at: usize, problem: u8, block: u64) -> usize
+    ensures { λ r. ⌜ Puts out at r (problemText problem block) ⌝ }
 {
     let formats = b"
   chunk-info block 0x@ is free in the internal-pool bitmap
@@ -38,8 +41,18 @@ pub(crate) fn problem_line(out: &mut [u8], at: usize, problem: u8, block: u64) -
   internal-pool block 0x@ queued but still in use
 ";
     let figures = [block];
-    let end = put_line(out, at, row(formats, problem as u64), &figures);
-    put_text(out, end, b"\n")
+    put_line(out, at, row(formats, problem as u64), &figures)
+}
+
+pub(crate) fn problem_line(out: &mut [u8], at: usize, problem: u8, block: u64) -> usize
+    ensures { λ r. ⌜ Puts out at r (problemLine problem block) ⌝ }
+{
+    if problem <= LAST_FORMAT {
+        let end = put_problem(out, at, problem, block);
+        return put_text(out, end, b"\n");
+    }
+    let figures = [problem as u64, block];
+    put_line(out, at, b"  problem # at 0x@\n", &figures)
 }
 
 pub(crate) fn bitmaps_line(

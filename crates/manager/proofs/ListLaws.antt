@@ -1,5 +1,6 @@
 -- Laws of lists read in place: a list exists whole where its last byte does, and its entries stand one after another.
 use mathlib.Core.Path.{_≡_, refl, sym, ap, _∙_}
+use mathlib.Core.Bool.{Bool, true, false}
 use mathlib.Core.List.{List}
 use Prim.Native.Nat.{ℕ, zero, suc, _+_, _-_, _*_, _/_, _^_, _≤_, _<_}
 use native.Mathlib.Decide.{decLe}
@@ -10,18 +11,24 @@ use lib.Bits.{bitAnd, and-mask}
 use lib.Pow.{pow-pos}
 use lib.Seq.{take-nil}
 use borrow.Author.Tests.{le-leb, lt-leb}
+use Rattle.fields.specs.Choice.{pick}
 use Rattle.fields.specs.contracts.Numbers.{NumberAt}
 use Rattle.fields.specs.Fields.{num, le}
 use Rattle.fields.proofs.Laws.{field-there, field-absent}
 use Rattle.blocks.specs.Reads.{run, given, refused}
 use Rattle.blocks.specs.Blocks.{field, present}
+use Rattle.blocks.specs.declared.Address.{Address}
 use Rattle.blocks.specs.declared.Presence.{Presence}
 use Rattle.blocks.specs.declared.Refusal.the-variants.{OutsideBytes}
 use Rattle.blocks.proofs.Laws.{then-given, then-refused, need-true, need-false}
-use Rattle.manager.specs.Manager.{listFrom, chunkInfosAt}
+use Rattle.manager.specs.Manager.{listFrom, listedAt, listedCount, addressCount, addressesAt}
 use Rattle.manager.specs.Chunks.{chunkAt, chunksFrom}
-use Rattle.manager.specs.contracts.Lists.{values, records, FieldsSeen, ListSeen, InfoRead}
+use Rattle.manager.specs.contracts.Lists.{values, records, FieldsSeen, held, listedIn, addressesIn}
+use Rattle.manager.specs.contracts.Place.{placed}
 use Rattle.manager.specs.declared.Chunk.{Chunk}
+use Rattle.manager.specs.declared.Holder.{Holder}
+use Rattle.manager.specs.declared.Holder.the-variants.{InManager, InBlock}
+use Rattle.manager.specs.declared.Manager.{Manager}
 
 -- past the end all bytes count 0
 pub num-past : (w : ℕ) (b : List ℕ) (off : ℕ) → length b ≤ off → num w b off ≡ 0
@@ -65,7 +72,7 @@ module _ (f : ℕ → List ℕ) (w : ℕ) (sm : List ℕ) where
           then-given f _ _ _ (field-given off l)
           ∙ then-refused f _ _ _ (again (positive w n off _ l h) (omega (arith, mul-suc w n)))
 
--- the one test of a list, of a manager of size bytes
+-- the one test of a list, in size bytes
 module _ (f : ℕ → List ℕ) (w size at n : ℕ) (sm : List ℕ) (some : 0 < w) (e : length sm ≡ size) where
   pub list-there : at ≤ size → n ≤ (size - at) / w → run f (listFrom w sm n at) ≡ given (values w sm n at)
   list-there h k = list-fits f w sm n at (omega (arith, le-div-iff-mul-le some .0 k, mul-comm w n))
@@ -81,12 +88,35 @@ module _ (w at i : ℕ) (some : 0 < w) (fits : at < 2 ^ 64) where
   pub entry-past : (sm : List ℕ) (size : ℕ) → length sm ≡ size → size < 2 ^ 64 → (2 ^ 64 - 1 - at) / w < i → num w sm (at + w * i) ≡ 0
   entry-past sm size e k h = num-past w sm (at + w * i) (omega (arith, div-lt-iff-lt-mul some .0 h, mul-comm w i))
 
--- a count and a start as they were read
-pub list-read : (w : ℕ) (sm : List ℕ) (n at count start : ℕ) (r : Presence) → n ≡ num 4 sm count → at ≡ num 4 sm start → FieldsSeen w sm n at r → ListSeen w count start sm r
-list-read w sm n at count start r p q h = rw (← p, ← q) h
+-- how many the main device's list has
+pub counted-true : (t : Bool) (r a b : ℕ) → t ≡ true → r ≡ a → r ≡ pick t a b
+counted-true t r a b e q = q ∙ rw e refl
 
-pub info-read : (sm : List ℕ) (at i r : ℕ) → at ≡ chunkInfosAt sm → NumberAt 8 sm (at + 8 * i) r → InfoRead sm i r
-info-read sm at i r p h = rw (← p) h
+pub counted-false : (t : Bool) (r a b : ℕ) → t ≡ false → r ≡ b → r ≡ pick t a b
+counted-false t r a b e q = q ∙ rw e refl
+
+-- a list of addresses, from what was read of it
+pub listed-read : (sm : List ℕ) (m : Manager) (at count : ℕ) → at ≡ listedAt sm → count ≡ listedCount sm → record { holder = InManager m; at = at; count = count } ≡ listedIn sm m
+listed-read sm m at count p q = rw (p, q) refl
+
+pub addresses-read : (b whole : List ℕ) (a : Address) (count : ℕ) → b ≡ whole → count ≡ addressCount b → record { holder = InBlock a; at = addressesAt; count = count } ≡ addressesIn whole a
+addresses-read b whole a count p q = rw (q, p) refl
+
+-- what holds it
+module _ (f : ℕ → List ℕ) (size : ℕ) (h : Holder) where
+  pub held-manager : (m : Manager) → h ≡ InManager m → placed f size m ≡ held f size h
+  held-manager m e = rw e refl
+
+  pub held-block : (a : Address) (b : List ℕ) → h ≡ InBlock a → b ≡ f (a .0) → b ≡ held f size h
+  held-block a b e q = q ∙ rw e refl
+
+-- the same number, of bytes that are the same
+pub number-in : (w off r : ℕ) (b whole : List ℕ) → b ≡ whole → NumberAt w b off r → NumberAt w whole off r
+number-in w off r b whole e h = rw e at h
+
+-- a count and a start as they were read
+pub list-read : (w : ℕ) (sm : List ℕ) (n at count start : ℕ) (r : Presence) → n ≡ count → at ≡ start → FieldsSeen w sm n at r → FieldsSeen w sm count start r
+list-read w sm n at count start r p q h = rw (← p, ← q) h
 
 pub entry-none : (w : ℕ) (sm : List ℕ) (off : ℕ) → num w sm off ≡ 0 → NumberAt w sm off 0
 entry-none w sm off e = record { is = sym e; fits = pow-pos (8 * w) }

@@ -9,7 +9,7 @@ use native.Mathlib.Numerals.{add-one}
 use native.Mathlib.Omega.{arith}
 use lib.ListN.{length, take, drop, getD, length-append, length-take, length-drop, take-append-drop, drop-of-length-le, List·getD-append}
 use lib.Seq.{getD-append-add, getD-take, drop-drop, ext-getD}
-use borrow.Author.Tests.{lt-leb, le-leb, lt-ltb, le-ltb, eq-eqb, ne-eqb}
+use borrow.Author.Tests.{lt-leb, le-leb, lt-ltb, le-ltb}
 use Rattle.fletcher.specs.Fletcher.{fletcher, seal, verifies}
 use Rattle.fletcher.specs.contracts.Pieces.{Added}
 use Rattle.fletcher.specs.declared.Sums.{Sums}
@@ -19,7 +19,7 @@ use Rattle.blocks.specs.Blocks.{blockOf, readRaw, sum}
 use Rattle.blocks.specs.contracts.Images.{Holds}
 use Rattle.blocks.specs.declared.Container.{Container}
 use Rattle.blocks.specs.declared.Refusal.{Refusal}
-use Rattle.blocks.specs.declared.Refusal.the-variants.{PastContainer, BadChecksum, OutsideBytes, Unmapped, AddressBlocks, Overflow}
+use Rattle.blocks.specs.declared.Refusal.the-variants.{PastContainer, BadChecksum, OutsideBytes, Unmapped, Overflow}
 use Rattle.blocks.specs.declared.Presence.{Presence}
 use Rattle.blocks.specs.declared.Presence.the-variants.{There, Refused}
 use Rattle.blocks.proofs.Laws.{then-given, then-refused, block-length}
@@ -27,7 +27,7 @@ use Rattle.checkpoint.specs.Superblock.{dataBase, dataBlocks}
 use Rattle.checkpoint.specs.declared.Mapping.{Mapping}
 use Rattle.checkpoint.specs.declared.Mapped.{Mapped}
 use Rattle.checkpoint.specs.declared.Mapped.the-variants.{To, Nowhere}
-use Rattle.manager.specs.Manager.{managerFrom, accepted, managerAt, managerBy, blocksFor, addressBlockCount}
+use Rattle.manager.specs.Manager.{managerFrom, accepted, managerAt, managerBy, blocksFor}
 use Rattle.manager.specs.contracts.Place.{placeOf, addressIn, byteIn, placed, bytesOf}
 use Rattle.manager.specs.contracts.Load.{joined, WhereThere, BlockGoes, BlocksGo, BlocksSeen, Stands, Piece}
 use Rattle.manager.specs.declared.Manager.{Manager}
@@ -213,14 +213,9 @@ module _ (f : ℕ → List ℕ) (sm : List ℕ) where
     unfolding run accepted need _>>=_
     accepted-short h = simp (v, lt-leb _ _ h)
 
-    module _ (h : 344 ≤ length sm) where
-      pub accepted-addressed : (addressBlockCount sm ≡ 0 → ⊥) → run f (accepted sm) ≡ refused AddressBlocks
-      unfolding run accepted need _>>=_
-      accepted-addressed k = simp (v, le-leb _ _ h, ne-eqb _ _ k)
-
-      pub accepted-given : addressBlockCount sm ≡ 0 → run f (accepted sm) ≡ given sm
-      unfolding run accepted need _>>=_
-      accepted-given k = simp (v, le-leb _ _ h, eq-eqb _ _ k)
+    pub accepted-given : 344 ≤ length sm → run f (accepted sm) ≡ given sm
+    unfolding run accepted need _>>=_
+    accepted-given h = simp (v, le-leb _ _ h)
 
 -- a place from its fields
 pub place-read : (sb : List ℕ) (mp : Mapping) (base blocks : ℕ) → base ≡ dataBase sb → blocks ≡ dataBlocks sb

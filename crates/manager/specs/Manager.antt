@@ -1,15 +1,17 @@
--- The space manager's bytes, and its fields.
+-- The space manager's bytes, its fields and lists, and the list of an address block.
+use mathlib.Core.Bool.{Bool}
 use mathlib.Core.List.{List, [], _∷_, _++_}
 use Prim.Native.Nat.{ℕ, zero, suc, _+_, _-_, _/_, _%_, max}
-use lib.Dec.{leb, eqb}
+use lib.Dec.{leb, ltb}
 use lib.ListN.{length, take}
+use Rattle.fields.specs.Choice.{pick}
 use Rattle.fields.specs.Fields.{num}
 use Rattle.fletcher.specs.Fletcher.{verifies}
 use Rattle.blocks.specs.Reads.{Reads, done, refuse, _>>=_, need}
 use Rattle.blocks.specs.Blocks.{readRaw, field, sum}
 use Rattle.blocks.specs.declared.Container.{Container}
 use Rattle.blocks.specs.declared.ObjectId.{ObjectId}
-use Rattle.blocks.specs.declared.Refusal.the-variants.{BadChecksum, Unmapped, OutsideBytes, AddressBlocks, Overflow}
+use Rattle.blocks.specs.declared.Refusal.the-variants.{BadChecksum, Unmapped, OutsideBytes, Overflow}
 use Rattle.checkpoint.specs.Superblock.{dataBase, dataBlocks, managerId, withoutTopBit}
 use Rattle.checkpoint.specs.declared.Mapping.{Mapping}
 use Rattle.checkpoint.specs.declared.Mapped.{Mapped}
@@ -25,8 +27,8 @@ addressBlockCount sm = num 4 sm 68
 abbrev pub deviceFree : List ℕ → ℕ
 deviceFree sm = num 8 sm 72
 
-abbrev pub chunkInfosAt : List ℕ → ℕ
-chunkInfosAt sm = num 4 sm 80
+abbrev pub listedAt : List ℕ → ℕ
+listedAt sm = num 4 sm 80
 
 -- the internal pool, the blocks of its bitmap, and the ring that these lie in
 abbrev pub poolBlocks : List ℕ → ℕ
@@ -81,12 +83,10 @@ abbrev pub leastManager : ℕ
 leastManager = 344
 
 -- "verified as one object; size 0 gives 13", which is no object that verifies
--- "19. The main device has address blocks above its chunk-info blocks (added; tested once the manager is parsed)."
 unfoldable pub accepted : List ℕ → Reads (List ℕ)
 accepted sm = do
   _ ← need (verifies sm) BadChecksum
   _ ← need (leb leastManager (length sm)) OutsideBytes
-  _ ← need (eqb (addressBlockCount sm) 0) AddressBlocks
   done sm
 
 -- the manager at a mapping's address, of its size
@@ -110,9 +110,28 @@ listFrom w sm (suc left) off = do
   xs ← listFrom w sm left (off + w)
   done (x ∷ xs)
 
--- the indices of the pool's bitmap blocks in their ring, and the addresses of the main device's chunk-info blocks
+-- the indices of the pool's bitmap blocks in their ring
 abbrev pub poolIndices : List ℕ → Reads (List ℕ)
 poolIndices sm = listFrom 2 sm (poolBitmaps sm) (poolIndicesAt sm)
 
-abbrev pub chunkInfos : List ℕ → Reads (List ℕ)
-chunkInfos sm = listFrom 8 sm (chunkInfoCount sm) (chunkInfosAt sm)
+-- document 02: "address blocks above their chunk-info blocks .. the manager's list then names address blocks", as many as it counts
+abbrev pub hasAddressBlocks : List ℕ → Bool
+hasAddressBlocks sm = ltb 0 (addressBlockCount sm)
+
+abbrev pub listedCount : List ℕ → ℕ
+listedCount sm = pick (hasAddressBlocks sm) (addressBlockCount sm) (chunkInfoCount sm)
+
+-- the main device's list: the addresses of its address blocks, or else of its chunk-info blocks
+abbrev pub listed : List ℕ → Reads (List ℕ)
+listed sm = listFrom 8 sm (listedCount sm) (listedAt sm)
+
+-- an address block; document 02: "a count at byte 36 and 8-byte addresses of chunk-info blocks from byte 40, as `cib_addrs` reads
+-- them", which takes a count of 4 bytes
+abbrev pub addressCount : List ℕ → ℕ
+addressCount b = num 4 b 36
+
+abbrev pub addressesAt : ℕ
+addressesAt = 40
+
+abbrev pub addressesOf : List ℕ → Reads (List ℕ)
+addressesOf b = listFrom 8 b (addressCount b) addressesAt

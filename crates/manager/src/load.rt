@@ -1,7 +1,6 @@
-// Loads the manager: its blocks are looked for, its bytes verified in place, its first fields tested. What is answered is where it stands.
+// Loads the manager: its blocks are looked for, its bytes verified in place, its length tested. The answer is where it stands.
 use crate::Manager;
 use crate::ManagerAnswer;
-use crate::offsets::ADDRESS_BLOCKS;
 use crate::place;
 use blocks::Container;
 use blocks::Presence;
@@ -150,9 +149,6 @@ fn accept(image: &[u8], container: Container, manager: Manager) -> ManagerAnswer
     }
     if manager.size < LEAST_MANAGER {
         return ManagerAnswer::Refused(Refusal::OutsideBytes);
-    }
-    if place::u32_of(image, container, manager, ADDRESS_BLOCKS) != 0 {
-        return ManagerAnswer::Refused(Refusal::AddressBlocks);
     }
     ManagerAnswer::Given(manager)
 }

@@ -1,11 +1,11 @@
 // Offsets in a manager.
-pub const CHUNK_INFO_COUNT: u64 = 64;
+pub(crate) const CHUNK_INFO_COUNT: u64 = 64;
 
 pub(crate) const ADDRESS_BLOCKS: u64 = 68;
 
 pub const DEVICE_FREE: u64 = 72;
 
-pub(crate) const CHUNK_INFOS_AT: u64 = 80;
+pub(crate) const LISTED_AT: u64 = 80;
 
 pub const POOL_BLOCKS: u64 = 152;
 

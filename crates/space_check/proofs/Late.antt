@@ -40,7 +40,7 @@ use Rattle.report.specs.declared.OverlapLog.{OverlapLog}
 use Rattle.pool.specs.Pool.{Pool, bitmapsFrom, loadPool, poolFrom}
 use Rattle.queue.specs.Queue.{runCount, runOf, nodeBy, scanQueue, queue, queueFrom}
 use Rattle.totals.specs.Totals.{unowned}
-use Rattle.audit.specs.Audit.{unless, markFrom, tally, auditBitmap, auditChunk, auditChunks, auditInfo, auditInfos, auditQueuedFrom, auditQueued, auditUse, markSet, markBit, tallyBitmap, readBitmap, enterInfo, readInfo, auditDevice, auditQueuedBlock}
+use Rattle.audit.specs.Audit.{unless, markFrom, tally, auditBitmap, auditChunk, auditChunks, auditInfo, auditQueuedFrom, auditQueued, auditMark, auditUse, markSet, markBit, tallyBitmap, readBitmap, enterInfo, readInfo, auditEach, enterAddress, readAddress, auditAddress, auditListed, auditDevice, auditQueuedBlock}
 use Rattle.audit.specs.declared.Audit.{Audit}
 use Rattle.claims.specs.Claims.{claimBlock, claimFrom, claim, claimNode, claimMapped, claimMapping, claimQueued, mappedAddress, claimMappings}
 use Rattle.space_check.specs.Check.{audit, claimAreas, claimObjects, claims, body, lastUntouched, Parts, poolPart, managerPart, loadParts, claimTrees, claimAndReport, auditAndClaim}
@@ -267,7 +267,7 @@ late-managerFrom c sb at (suc left) i found =
 
 late-accepted : (sm : List ℕ) → Late (accepted sm)
 unfolding accepted
-late-accepted sm = late-test _ _ _ refl (late-test _ _ _ refl (late-test _ _ _ refl (late-done _)))
+late-accepted sm = late-test _ _ _ refl (late-test _ _ _ refl (late-done _))
 
 late-managerAt : (c : Container) (sb : List ℕ) (m : Mapping) → Late (managerAt c sb m)
 unfolding managerAt
@@ -354,9 +354,13 @@ unfolding unless
 late-unless true kind a s = late-done _
 late-unless false kind a s = late-bind _ _ (late-addProblem _ _) (λ l. late-done _)
 
+late-auditMark : (p : Pool) (unmarked a : ℕ) (s : Marked Audit) → Late (auditMark p unmarked a s)
+unfolding auditMark
+late-auditMark p unmarked a s = late-unless _ _ _ s
+
 late-auditUse : (c : Container) (p : Pool) (unmarked inUse a : ℕ) (s : Marked Audit) → Late (auditUse c p unmarked inUse a s)
 unfolding auditUse
-late-auditUse c p unmarked inUse a s = late-bind _ _ (late-unless _ _ _ s) (λ s₁. late-unless _ _ _ s₁)
+late-auditUse c p unmarked inUse a s = late-bind _ _ (late-auditMark p _ _ s) (λ s₁. late-unless _ _ _ s₁)
 
 late-markSet : (c : Container) (start i : ℕ) (s : Marked ℕ) → Late (markSet c start i s)
 unfolding markSet
@@ -406,16 +410,33 @@ late-readInfo c p a s = late-bind _ _ (late-readRaw c _) (late-enterInfo c p a s
 
 late-auditInfo : (c : Container) (p : Pool) (a : Address) (s : Marked Audit) → Late (auditInfo c p a s)
 unfolding auditInfo
-late-auditInfo c p a s = late-bind _ _ (late-unless _ _ _ s) (late-readInfo c p a)
+late-auditInfo c p a s = late-bind _ _ (late-auditMark p _ _ s) (late-readInfo c p a)
 
-late-auditInfos : (c : Container) (p : Pool) (l : List ℕ) (s : Marked Audit) → Late (auditInfos c p l s)
-unfolding auditInfos
-late-auditInfos c p [] s = late-done _
-late-auditInfos c p (a ∷ rest) s = late-bind _ _ (late-auditInfo c p _ s) (late-auditInfos c p rest)
+late-auditEach : (visit : Address → Marked Audit → Reads (Marked Audit)) → ((a : Address) (s : Marked Audit) → Late (visit a s)) → (l : List ℕ) (s : Marked Audit) → Late (auditEach visit l s)
+unfolding auditEach
+late-auditEach visit late [] s = late-done _
+late-auditEach visit late (a ∷ rest) s = late-bind _ _ (late _ s) (late-auditEach visit late rest)
+
+late-enterAddress : (c : Container) (p : Pool) (a : Address) (s : Marked Audit) (b : List ℕ) → Late (enterAddress c p a s b)
+unfolding enterAddress
+late-enterAddress c p a s b = late-bind _ _ (late-listFrom _ b _ _) (λ infos. late-auditEach _ (late-auditInfo c p) infos _)
+
+late-readAddress : (c : Container) (p : Pool) (a : Address) (s : Marked Audit) → Late (readAddress c p a s)
+unfolding readAddress
+late-readAddress c p a s = late-bind _ _ (late-readRaw c a) (late-enterAddress c p a s)
+
+late-auditAddress : (c : Container) (p : Pool) (a : Address) (s : Marked Audit) → Late (auditAddress c p a s)
+unfolding auditAddress
+late-auditAddress c p a s = late-bind _ _ (late-auditMark p _ _ s) (late-readAddress c p a)
+
+late-auditListed : (c : Container) (p : Pool) (has : Bool) (l : List ℕ) (s : Marked Audit) → Late (auditListed c p has l s)
+unfolding auditListed
+late-auditListed c p true l s = late-auditEach _ (late-auditAddress c p) l s
+late-auditListed c p false l s = late-auditEach _ (late-auditInfo c p) l s
 
 late-auditDevice : (c : Container) (p : Pool) (sm : List ℕ) (s : Marked Audit) → Late (auditDevice c p sm s)
 unfolding auditDevice
-late-auditDevice c p sm s = late-bind _ _ (late-listFrom _ sm _ _) (λ infos. late-auditInfos c p infos s)
+late-auditDevice c p sm s = late-bind _ _ (late-listFrom _ sm _ _) (λ l. late-auditListed c p _ l s)
 
 late-auditQueuedBlock : (c : Container) (p : Pool) (a : ℕ) (s : Marked Audit) → Late (auditQueuedBlock c p a s)
 unfolding auditQueuedBlock

@@ -20,7 +20,7 @@ ghost use Rattle.trees.specs.contracts.Answers.{ClaimsAs};
 ghost use Rattle.trees.specs.contracts.Read.{NodeRead};
 ghost use Rattle.space_check.specs.contracts.Stages.{auditOf, objectsOf, treesOf, claimsOf, ClaimsOn, RootRead};
 
-// Chunk-info blocks in the order of their list, then the pool queue.
+// The main device in the order of its list, then the pool queue.
 pub(crate) fn audit_all(
     image: &[u8],
     map: &mut [u8],
@@ -31,7 +31,7 @@ pub(crate) fn audit_all(
 {
     let container = checkpoint.container;
     let pool = parts.pool;
-    let audited = audit::chunks::audit_device(
+    let audited = audit::device::audit_device(
         image,
         map,
         container,

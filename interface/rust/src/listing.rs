@@ -1,4 +1,5 @@
-//! The listing: the lines of winapfs's `space_check_container`, without its sizes for people.
+//! The listing: the lines of winapfs's `space_check_container`, without its sizes for people, and those of problems that it
+//! doesn't have.
 
 use std::fmt;
 
@@ -13,7 +14,8 @@ pub struct Listing<'a> {
 }
 
 impl Report {
-    /// The lines of the listing, in the words of the original; `name` stands where it prints the disk's place.
+    /// The lines of the listing, in the words of the original where it has some; `name` stands where it prints the disk's
+    /// place.
     pub fn listing<'a>(&'a self, name: &'a str) -> Listing<'a> {
         Listing { report: self, name }
     }
@@ -58,6 +60,8 @@ fn problem_text(Problem { kind, block }: Problem) -> String {
         ProblemKind::BitmapUsed => format!("internal-pool block {block:#x} used twice"),
         ProblemKind::QueuedUnmarked => format!("queued internal-pool block {block:#x} is already free"),
         ProblemKind::QueuedUsed => format!("internal-pool block {block:#x} queued but still in use"),
+        // kinds that the original does not have
+        later => format!("problem {} at {block:#x}", later.number()),
     }
 }
 

@@ -65,6 +65,7 @@ numbered! {
         BitmapUsed = 3, "chunk bitmap already used";
         QueuedUnmarked = 4, "queued block unmarked";
         QueuedUsed = 5, "queued block already used";
+        AddressUnmarked = 6, "address block unmarked";
     }
 }
 
@@ -77,7 +78,7 @@ numbered! {
 }
 
 numbered! {
-    /// Why there is no report, in checking order.
+    /// Why there is no report, in checking order. 19 was for address blocks, which are followed since 0.2.0; it is not used again.
     Refusal {
         ShortImage = 1, "the image is shorter than 4,096 bytes";
         NoMagic = 2, "the image does not begin with a container superblock";
@@ -97,7 +98,6 @@ numbered! {
         Unmapped = 16, "the checkpoint's map lacks an object that the check needs";
         OutsideBytes = 17, "a list, an entry or a pointer is missing, or runs past the end of what holds it";
         WrongLevel = 18, "a tree node stands on another level than its parent says";
-        AddressBlocks = 19, "the disk is so large that its space manager has address blocks, which this check does not follow";
         BadBitmap = 20, "a bitmap is too small for what it describes, or marks a block past the end of the container";
         Overflow = 21, "numbers do not add up: a sum passes 64 bits, the space manager lies before its area, or queued blocks of the \
              internal pool lie past the end of the container";
@@ -138,5 +138,7 @@ mod tests {
     fn a_number_without_a_name() {
         assert_eq!((Kind::from_number(0), Refusal::from_number(u64::MAX)), (None, None));
         assert_eq!(Refusal::from_number(22), Some(Refusal::TooManyNodes));
+        // no longer given, and not used again
+        assert_eq!(Refusal::from_number(19), None);
     }
 }

@@ -5,13 +5,15 @@ use Prim.Native.Nat.{ℕ, _+_, _*_}
 use denote.Ref.{now}
 use Rattle.blocks.specs.Reads.{Reads}
 use Rattle.blocks.specs.contracts.Images.{Lent, bytes, blocksIn, Pass}
+use Rattle.blocks.specs.declared.Address.{Address}
 use Rattle.blocks.specs.declared.Container.{Container}
 use Rattle.nodes.specs.contracts.Answers.{entryIn}
 use Rattle.nodes.specs.declared.EntryPlace.{EntryPlace}
-use Rattle.manager.specs.Manager.{chunkInfoCount, chunkInfosAt}
+use Rattle.manager.specs.Manager.{hasAddressBlocks}
 use Rattle.manager.specs.Chunks.{chunkCount, chunksAt, chunkLength}
 use Rattle.manager.specs.contracts.Place.{placed}
-use Rattle.manager.specs.contracts.Lists.{values, records}
+use Rattle.manager.specs.contracts.Lists.{values, records, held}
+use Rattle.manager.specs.declared.AddressList.{AddressList}
 use Rattle.block_map.specs.BlockMap.{Marked}
 use Rattle.report.specs.contracts.Steps.{Stepped, Moves}
 use Rattle.report.specs.declared.Cursor.{Cursor}
@@ -20,7 +22,7 @@ use Rattle.pool.specs.Pool.{Pool}
 use Rattle.pool.specs.contracts.Place.{poolIn}
 use Rattle.pool.specs.declared.PoolPlace.{PoolPlace}
 use Rattle.queue.specs.declared.Run.{Run}
-use Rattle.audit.specs.Audit.{markFrom, auditChunks, auditInfos, auditDevice, auditQueuedFrom, auditQueued}
+use Rattle.audit.specs.Audit.{markFrom, auditChunks, auditEach, auditListed, auditDevice, auditQueuedFrom, auditQueued}
 use Rattle.audit.specs.declared.Audit.{Audit}
 use Rattle.audit.specs.declared.Audited.{Audited}
 use Rattle.audit.specs.declared.AuditStep.{AuditStep}
@@ -66,12 +68,21 @@ chunksLeft c place block at f = auditChunks c (poolAt c place f) (records (bytes
 abbrev pub chunksIn : Container → PoolPlace → Lent → Pass (Marked Audit) (Marked Audit)
 chunksIn c place block f = auditChunks c (poolAt c place f) (records (bytes block) (chunkCount (bytes block)) chunksAt)
 
--- the chunk-info blocks that a manager lists, from a cursor on, all of them, and the device's
-abbrev pub infosLeft : Container → PoolPlace → Cursor → Pass (Marked Audit) (Marked Audit)
-infosLeft c place at f = let sm = placed f (c .size) (place .manager) in auditInfos c (poolAt c place f) (values 8 sm (at .left) (chunkInfosAt sm + 8 * at .next))
+-- the blocks that a list of addresses names, by what is done at each: from a cursor on, all of them, and the device's
+abbrev pub BlockAudit : Type 0
+BlockAudit = Container → Pool → Address → Marked Audit → Reads (Marked Audit)
 
-abbrev pub infosIn : Container → PoolPlace → Pass (Marked Audit) (Marked Audit)
-infosIn c place f = let sm = placed f (c .size) (place .manager) in auditInfos c (poolAt c place f) (values 8 sm (chunkInfoCount sm) (chunkInfosAt sm))
+abbrev pub eachLeft : BlockAudit → Container → PoolPlace → AddressList → Cursor → Pass (Marked Audit) (Marked Audit)
+eachLeft visit c place l at f = auditEach (visit c (poolAt c place f)) (values 8 (held f (c .size) (l .holder)) (at .left) (l .at + 8 * at .next))
+
+abbrev pub addressesOn : (ℕ → List ℕ) → Container → AddressList → List ℕ
+addressesOn f c l = values 8 (held f (c .size) (l .holder)) (l .count) (l .at)
+
+abbrev pub eachIn : BlockAudit → Container → PoolPlace → AddressList → Pass (Marked Audit) (Marked Audit)
+eachIn visit c place l f = auditEach (visit c (poolAt c place f)) (addressesOn f c l)
+
+abbrev pub listedOf : Container → PoolPlace → AddressList → Pass (Marked Audit) (Marked Audit)
+listedOf c place l f = auditListed c (poolAt c place f) (hasAddressBlocks (placed f (c .size) (place .manager))) (addressesOn f c l)
 
 abbrev pub deviceIn : Container → PoolPlace → Pass (Marked Audit) (Marked Audit)
 deviceIn c place f = auditDevice c (poolAt c place f) (placed f (c .size) (place .manager))

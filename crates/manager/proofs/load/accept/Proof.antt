@@ -1,7 +1,7 @@
 use borrow.Author.Tests.{not-true, not-false}
 use mathlib.Core.Path.{sym, _∙_}
 use native.Mathlib.Omega.{arith}
-use Rattle.manager.proofs.LoadLaws.{accepted-bad, accepted-short, accepted-addressed, accepted-given}
+use Rattle.manager.proofs.LoadLaws.{accepted-bad, accepted-short, accepted-given}
 use Rattle.manager.proofs.Laws.{placed-length}
 use borrow.Author.Needs.{needs}
 use Rattle.manager.proofs.load.accept.Statement.{statement}
@@ -16,15 +16,9 @@ returns c = sym (accepted-bad _ _ (sym (c .before .verify .ensures) ∙ not-true
 returns-2 : tie.Need-returns-2
 returns-2 c = sym (accepted-short _ _ (sym (c .before .before .before .verify .ensures) ∙ not-false _ (c .before .before .if1 .left)) (rw placed-length (omega arith)))
 
-u32-of-requires : tie.Need-u32-of-requires
-u32-of-requires c κs = search needs
-
 returns-3 : tie.Need-returns-3
-returns-3 c = sym (accepted-addressed _ _ (sym (c .before .before .before .before .before .verify .ensures) ∙ not-false _ (c .before .before .before .before .if1 .left)) (rw placed-length (omega arith)) (λ e. c .if3 .taken (c .before .u32-of .ensures .is ∙ e)))
-
-returns-4 : tie.Need-returns-4
-returns-4 c = sym (accepted-given _ _ (sym (c .before .before .before .before .before .verify .ensures) ∙ not-false _ (c .before .before .before .before .if1 .left)) (rw placed-length (omega arith)) (sym (c .before .u32-of .ensures .is) ∙ c .if3 .left))
+returns-3 c = sym (accepted-given _ _ (sym (c .before .before .before .verify .ensures) ∙ not-false _ (c .before .before .if1 .left)) (rw placed-length (omega arith)))
 
 pub accept-spec : {M : Type 1} → statement M
 accept-spec =
-    tie.close (tie.spec verify-requires returns returns-2 u32-of-requires returns-3 returns-4)
+    tie.close (tie.spec verify-requires returns returns-2 returns-3)
