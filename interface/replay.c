@@ -3,7 +3,7 @@
  * Standard input is one image after another: a line `NAME IMAGE-LENGTH MAP-LENGTH NUMBERS`, the image's bytes, so many numbers of
  * the answer (8 bytes each, in this machine's order), and the block map that the pass leaves of one whose byte i is i mod 251.
  *
- * Each image is run with two fills of the map and with arrays of numbers of three lengths. Numbers are compared as far as they
+ * Each image is run with two fills of the map and with arrays of numbers of four lengths. Numbers are compared as far as they
  * are both stated and given. Prints a line for each image.
  * Exit status: 0 all agree, 1 some differ, 2 nothing to run or input cut short. */
 #include <inttypes.h>
@@ -20,6 +20,7 @@ enum {
     LAST_UNTOUCHED = 11,   /* up to this refusal the map is as handed in */
     LONGER = SPACE_CHECK_FIGURES + 4,
     SHORTER = SPACE_CHECK_OVERLAPS,
+    EARLIER = SPACE_CHECK_LATER_LOST, /* the numbers before any were appended */
 };
 
 struct image {
@@ -137,7 +138,7 @@ int main(void)
         memcpy(image.copy, image.bytes, image.length);
 
         images++;
-        if (run(&image, 0, SPACE_CHECK_FIGURES) && run(&image, 1, LONGER) && run(&image, 0, SHORTER))
+        if (run(&image, 0, SPACE_CHECK_FIGURES) && run(&image, 1, LONGER) && run(&image, 0, SHORTER) && run(&image, 1, EARLIER))
             printf("%s agrees\n", image.name);
         else
             differ++;

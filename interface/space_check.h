@@ -10,7 +10,9 @@
 extern "C" {
 #endif
 
-/* How many numbers an answer has, and where each stands. After a refusal all but the first are 0. */
+/* How many numbers an answer has, and where each stands. After a refusal all but the first are 0. New ones are appended, so that
+ * a caller with an array of the numbers that it knows goes on as before; the verdict is by all kinds, those too that it doesn't
+ * know. */
 enum {
     SPACE_CHECK_REFUSAL = 0,      /* its number, or 0 where there is a report */
     SPACE_CHECK_XID = 1,          /* transaction number of the checkpoint taken */
@@ -24,10 +26,12 @@ enum {
     SPACE_CHECK_OVERLAPS = 28,    /* overlaps in all */
     SPACE_CHECK_OVERLAP = 29,     /* the first ten, each block, owner and claimant */
     SPACE_CHECK_LOST = 59,        /* blocks owned but unmarked, of kinds 1 to 9 */
-    SPACE_CHECK_FIRST_LOST = 68,  /* the first such of each kind */
+    SPACE_CHECK_FIRST_LOST = 68,  /* the first such of each */
     SPACE_CHECK_LEAKED = 77,      /* blocks marked but unowned */
     SPACE_CHECK_VERDICT = 78,     /* 1 consistent, 2 inconsistent */
-    SPACE_CHECK_FIGURES = 79
+    SPACE_CHECK_LATER_LOST = 79,  /* blocks owned but unmarked, of kinds 10 and 11 */
+    SPACE_CHECK_LATER_FIRST_LOST = 81, /* the first such of each */
+    SPACE_CHECK_FIGURES = 83
 };
 
 /* image: the container's bytes, block 0 first. Only read; nothing may change them during the call.

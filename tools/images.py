@@ -1,15 +1,16 @@
 """The images of a file in the form of compare/answers/list.txt (compare/README.md, "The fixed list"), with their answers.
 
 An answer may have more numbers than the archive gives, and an image lines of a check by chunks (`chunks`, `chunks-left`) and of
-the rules that it is meant for (`level`): a file is then for code that is still to come, and what is known of it is taken."""
+the rules that it is meant for (`level`): a file is then for code that is still to come, and what is known of it is taken. One for
+earlier code has the numbers of its time, as an earlier caller's array has."""
 import os
 
 from definition import places
 
 PLACES = places()
 FIGURES = PLACES['FIGURES']
-# no answer has fewer numbers than those up to the verdict
-LEAST = PLACES['VERDICT'] + 1
+# the numbers before any were appended
+EARLIER = PLACES['VERDICT'] + 1
 WORDS = {'define', 'image', 'made', 'base', 'length', 'at', 'map', 'level', 'rust', 'answer', 'left', 'chunks', 'chunks-left'}
 
 
@@ -77,7 +78,7 @@ def answered(fields, image):
     """An image with its answer and the map that is left."""
     answer = [number(n) for n in needed(fields, 'answer').split()]
     length, left = number(needed(fields, 'map')), bytes.fromhex(needed(fields, 'left'))
-    if len(answer) < LEAST:
+    if len(answer) < FIGURES and len(answer) != EARLIER:
         raise Fault(f'an answer of {len(answer)} numbers')
     if len(left) != length:
         raise Fault(f'{len(left)} bytes of a map of {length}')
@@ -85,19 +86,21 @@ def answered(fields, image):
 
 
 class Uncompared:
-    """What images state and the archive doesn't give."""
+    """What images state and the archive doesn't give, or the other way round."""
 
     def __init__(self, images=()):
-        self.longer = self.chunks = 0
+        self.longer = self.shorter = self.chunks = 0
         for v in images:
             self.note(v)
 
     def note(self, v):
         self.longer += len(v['answer']) > FIGURES
+        self.shorter += len(v['answer']) < FIGURES
         self.chunks += v['chunks']
 
     def __str__(self):
-        told = [(self.longer, f'numbers past {FIGURES}'), (self.chunks, 'lines `chunks`')]
+        told = [(self.longer, f'numbers past {FIGURES}'), (self.shorter, 'missing numbers'),
+                (self.chunks, 'lines `chunks`')]
         return '; '.join(f'{what} not compared, in {images} images' for images, what in told if images)
 
 

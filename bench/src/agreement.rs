@@ -58,7 +58,7 @@ mod tests {
     use crate::scratch::Scratch;
     use crate::synthetic::{write, Form};
 
-    const SMALL: Form = Form { blocks: 1 << 17, bitmap_every: 1, queued: 900, mapped: 300, seed: 1 };
+    const SMALL: Form = Form { blocks: 1 << 17, bitmap_every: 1, queued: 900, mapped: 300, volumes: 3, seed: 1 };
 
     fn pass(name: &str, form: Form) -> (Arc<Mapping>, Proved) {
         let scratch = Scratch::new(name, 0).unwrap();

@@ -14,6 +14,7 @@ mod scratch;
 mod synthetic;
 mod table;
 
+use compare::fields::superblock::MOST_VOLUMES;
 use compare::mkapfs::program;
 use container::{Measured, Subject, BLOCK};
 use memory::{Mapping, Pages};
@@ -21,12 +22,13 @@ use scratch::Scratch;
 use synthetic::Form;
 use table::Growth;
 
-const USAGE: &str = "usage: bench [checksum] [mkapfs] [dense] [large]    measure, all four if none is named
-       bench write dense GIBIBYTES FILE                 only write a dense container
-       bench write large TEBIBYTES FILE                 only write a large one, with address blocks from 4 TiB on
-       bench pass FILE RUNS                             only run the proved pass, for a profiler";
+const USAGE: &str = "usage: bench [checksum] [mkapfs] [dense] [volumes] [large]    measure, all five if none is named
+       bench write dense GIBIBYTES FILE                       only write a dense container
+       bench write volumes GIBIBYTES FILE                     only write a dense one with volumes
+       bench write large TEBIBYTES FILE                       only write a large one, with address blocks from 4 TiB on
+       bench pass FILE RUNS                                   only run the proved pass, for a profiler";
 
-const PARTS: [&str; 4] = ["checksum", "mkapfs", "dense", "large"];
+const PARTS: [&str; 5] = ["checksum", "mkapfs", "dense", "volumes", "large"];
 
 /// Blocks in a gibibyte and in a tebibyte.
 const GIBIBYTE: u64 = (1 << 30) / BLOCK as u64;
@@ -39,6 +41,8 @@ const MKAPFS_RUNS: usize = 5;
 const DENSE_GIBIBYTES: [u64; 3] = [16, 32, 64];
 const DENSE_BAR: f64 = 4.0;
 const DENSE_RUNS: usize = 30;
+/// The same for dense containers with volumes.
+const VOLUMES_BAR: f64 = 3.0;
 /// Large containers, with address blocks; the second is twice the first, to show how the time grows.
 const LARGE_TEBIBYTES: [u64; 2] = [4, 8];
 const LARGE_RUNS: usize = 5;
@@ -48,6 +52,7 @@ fn main() -> ExitCode {
     let arguments: Vec<&str> = arguments.iter().map(String::as_str).collect();
     let ended = match arguments[..] {
         ["write", "dense", gibibytes, file] => write(dense_form, gibibytes, file),
+        ["write", "volumes", gibibytes, file] => write(volumes_form, gibibytes, file),
         ["write", "large", tebibytes, file] => write(large_form, tebibytes, file),
         ["pass", file, runs] => pass(file, runs),
         ref parts if parts.iter().all(|part| PARTS.contains(part)) => measure(parts),
@@ -73,7 +78,10 @@ fn measure(parts: &[&str]) -> Result<(), String> {
         real(&mut measured)?;
     }
     if wanted("dense") {
-        dense(&mut measured)?;
+        dense(&mut measured, dense_form, DENSE_BAR)?;
+    }
+    if wanted("volumes") {
+        dense(&mut measured, volumes_form, VOLUMES_BAR)?;
     }
     if wanted("large") {
         large(&mut measured)?;
@@ -104,12 +112,16 @@ fn real(measured: &mut Measured) -> Result<(), String> {
     Ok(())
 }
 
-fn dense(measured: &mut Measured) -> Result<(), String> {
+/// Dense containers of all sizes; the bar is for the largest.
+fn dense(measured: &mut Measured, form: fn(u64) -> Form, bar: f64) -> Result<(), String> {
     for gibibytes in DENSE_GIBIBYTES {
-        let form = dense_form(gibibytes);
-        let scratch = made(&format!("dense-{gibibytes}"), form)?;
-        let bar = (DENSE_GIBIBYTES.last() == Some(&gibibytes)).then_some(DENSE_BAR);
-        let what = format!("dense, {gibibytes} GiB, {} queued", 2 * form.queued);
+        let form = form(gibibytes);
+        let scratch = made(&format!("dense-{gibibytes}-{}", form.volumes), form)?;
+        let bar = (DENSE_GIBIBYTES.last() == Some(&gibibytes)).then_some(bar);
+        let what = match form.volumes {
+            0 => format!("dense, {gibibytes} GiB, {} queued", 2 * form.queued),
+            volumes => format!("dense, {gibibytes} GiB, {volumes} volumes"),
+        };
         measured.add(Subject { what, runs: DENSE_RUNS, bar, misread: false }, &scratch.file)?;
     }
     Ok(())
@@ -134,13 +146,18 @@ fn large(measured: &mut Measured) -> Result<(), String> {
 /// The queues grow with the container, to 100,000 entries each at 64 GiB.
 fn dense_form(gibibytes: u64) -> Form {
     let blocks = gibibytes * GIBIBYTE;
-    Form { blocks, bitmap_every: 1, queued: gibibytes * 100_000 / 64, mapped: 20_000, seed: 1 }
+    Form { blocks, bitmap_every: 1, queued: gibibytes * 100_000 / 64, mapped: 20_000, volumes: 0, seed: 1 }
+}
+
+/// As many volumes as a container can list.
+fn volumes_form(gibibytes: u64) -> Form {
+    Form { volumes: MOST_VOLUMES, ..dense_form(gibibytes) }
 }
 
 /// Bitmaps are so few that most of the map's pages stay untouched; the queues fit the first chunk.
 fn large_form(tebibytes: u64) -> Form {
     let blocks = tebibytes * TEBIBYTE;
-    Form { blocks, bitmap_every: 1024, queued: tebibytes * 250, mapped: 20_000, seed: 1 }
+    Form { blocks, bitmap_every: 1024, queued: tebibytes * 250, mapped: 20_000, volumes: 0, seed: 1 }
 }
 
 fn made(name: &str, form: Form) -> Result<Scratch, String> {

@@ -4,9 +4,9 @@ use std::io;
 use std::sync::Arc;
 
 use apfs::dev::BlockDevice;
-use compare::oracle::{self, Ended};
+use compare::oracle::{self, Ended, Opening};
 use space_check::{figures_into, FIGURES};
-use winapfs::{take_caught, want_cells};
+use winapfs::{open_by, take_caught, want_cells};
 
 use crate::clock::timed;
 use crate::memory::{resident, Mapping, Pages};
@@ -68,15 +68,19 @@ impl Device {
     }
 }
 
+/// How the original opens a volume, of what may stand for it: by what takes it no time.
+const OPENING: Opening = Opening::Succeeds;
+
 /// What the original answers.
 pub fn original(image: &Arc<Mapping>) -> Ended {
     want_cells(true);
-    oracle::run(Device::boxed(image))
+    oracle::run(Device::boxed(image), OPENING)
 }
 
 /// Seconds of a pass of the original, which allocates and frees its own zeroed vectors.
 pub fn time_original(image: &Arc<Mapping>) -> f64 {
     want_cells(false);
+    open_by(OPENING);
     let (_, seconds) = timed(|| oracle::pass(Device::boxed(image)));
     take_caught();
     seconds

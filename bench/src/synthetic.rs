@@ -1,5 +1,6 @@
 //! A synthetic container in a sparse file, from a seed alone: dense bitmaps, an object map of three levels, long queues,
-//! and address blocks where it is large. It is consistent: whatever is claimed is marked, and nothing is claimed twice.
+//! volumes where they are wanted, and address blocks where it is large. It is consistent: whatever is claimed is marked,
+//! and nothing is claimed twice.
 
 mod address_blocks;
 mod bitmaps;
@@ -8,6 +9,7 @@ mod manager;
 mod object_map;
 mod queues;
 mod trees;
+mod volumes;
 
 use std::fs::File;
 use std::io;
@@ -22,6 +24,7 @@ use queues::{MAIN_SLOT, POOL_SLOT};
 const XID: u64 = 1000;
 const MANAGER_ID: u64 = 0x400;
 const QUEUE_ID: u64 = 0x1_0000;
+const VOLUME_ID: u64 = 0x10_0000;
 
 /// What a container is to hold.
 #[derive(Clone, Copy)]
@@ -33,6 +36,8 @@ pub struct Form {
     pub queued: u64,
     /// Mappings of the object map.
     pub mapped: u64,
+    /// So many of the mapped blocks are volumes that the container's superblock lists.
+    pub volumes: u64,
     pub seed: u64,
 }
 
@@ -66,6 +71,11 @@ impl Form {
 
     fn pool_blocks(&self) -> u64 {
         self.own_blocks() + POOL_SLOT * self.queued
+    }
+
+    /// Blocks of the volumes besides their superblocks.
+    fn volume_blocks(&self) -> u64 {
+        self.volumes * volumes::blocks_each()
     }
 }
 
@@ -112,13 +122,15 @@ pub fn write(file: &File, form: Form) -> io::Result<()> {
     let mut build = Build { file, form, places: Places::of(&form), rng: Rng::new(form.seed) };
     let mut chunks = Chunks::choose(&form, &mut build.rng);
     let mut slots = chunks.dense_slots(build.places.end, MAIN_SLOT);
-    if (slots.len() as u64) < form.queued + form.mapped {
-        return Err(io::Error::other("the container is too small for its queues and mappings"));
+    if (slots.len() as u64) < form.queued + form.mapped + form.volume_blocks() {
+        return Err(io::Error::other("the container is too small for its queues, mappings and volumes"));
     }
     build.rng.shuffle(&mut slots);
     let (queued, rest) = slots.split_at(form.queued as usize);
+    let (mapped, rest) = rest.split_at(form.mapped as usize);
     chunks.bits.set(0, build.places.end);
-    build.object_map(&rest[..form.mapped as usize], &mut chunks.bits)?;
+    build.object_map(mapped, &mut chunks.bits)?;
+    build.volumes(mapped, &rest[..form.volume_blocks() as usize], &mut chunks.bits)?;
     build.main_queue(queued, &mut chunks.bits)?;
     build.pool()?;
     build.chunks(&chunks)?;

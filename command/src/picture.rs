@@ -14,19 +14,20 @@ use crate::{files, font};
 type Class = u8;
 
 const FREE: Class = 0;
-/// The kinds have their own numbers, 1 to 9.
-const LEAKED: Class = 10;
-const PROBLEM: Class = 11;
-const LOST: Class = 12;
-const TWICE: Class = 13;
-const CLASSES: usize = 14;
+/// The kinds have their own numbers, from 1 on.
+const LAST_KIND: Class = Kind::ALL.len() as Class;
+const LEAKED: Class = LAST_KIND + 1;
+const PROBLEM: Class = LAST_KIND + 2;
+const LOST: Class = LAST_KIND + 3;
+const TWICE: Class = LAST_KIND + 4;
+const CLASSES: usize = TWICE as usize + 1;
 
 /// The other colours of the palette.
-const PAPER: u8 = 14;
-const INK: u8 = 15;
+const PAPER: u8 = TWICE + 1;
+const INK: u8 = TWICE + 2;
 
 /// By class, then paper and ink: calm colours for owners, loud ones for what needs a look.
-const PALETTE: [[u8; 3]; 16] = [
+const PALETTE: [[u8; 3]; CLASSES + 2] = [
     [0xe5, 0xe7, 0xeb],
     [0x1f, 0x29, 0x37],
     [0x1d, 0x4e, 0xd8],
@@ -37,6 +38,8 @@ const PALETTE: [[u8; 3]; 16] = [
     [0xa7, 0x8b, 0xfa],
     [0x15, 0x80, 0x3d],
     [0x86, 0xd9, 0x9c],
+    [0x70, 0x1a, 0x75],
+    [0xb0, 0x90, 0x90],
     [0xf5, 0x9e, 0x0b],
     [0x92, 0x40, 0x0e],
     [0xdc, 0x26, 0x26],
@@ -294,7 +297,13 @@ mod tests {
         assert_eq!(cell(&[0, 0, 0x17]), 7);
         assert_eq!(cell(&[0x14, 0x13, 0x13]), 3);
         assert_eq!(cell(&[0x14, 0x13]), 3, "of equals the lower number");
-        assert_eq!(cell(&[0x13, 0x13, 0x10]), LEAKED);
+        assert_eq!(cell(&[0x1a, 0x1b, 0x1b]), 11);
+        assert_eq!(cell(&[0x1b, 0x1b, 0x10]), LEAKED);
         assert_eq!(cell(&[0x10, 0x10, 0x13, 0x03]), LOST);
+    }
+
+    #[test]
+    fn owners_have_classes_of_their_own() {
+        assert!(Kind::ALL.iter().all(|&kind| (FREE + 1..LEAKED).contains(&class_of_kind(kind))));
     }
 }

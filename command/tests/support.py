@@ -48,6 +48,8 @@ PROBLEMS = definition.problems()
 REFUSALS = definition.refusals()
 # "Refusal 19 is never given again" (document 02)
 WITHDRAWN = {19}
+# kinds with places among the base's numbers; those of later kinds stand at the answer's end
+BASE_KINDS = PLACES['FIRST_LOST'] - PLACES['LOST']
 # so many problems, and so many overlaps, are named in a report
 LOGGED = (PLACES['FREE'] - PLACES['PROBLEM']) // 2
 

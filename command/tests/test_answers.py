@@ -4,8 +4,8 @@ import struct
 import subprocess
 import unittest
 
-from support import (CONSISTENT, FIGURES, INCONSISTENT, KINDS, PLACES, PROBLEMS, REFUSALS, REFUSED, ROOT, WITHDRAWN, CommandTest,
-                     figure, known, lost_and_leaked, page_rows)
+from support import (BASE_KINDS, CONSISTENT, FIGURES, INCONSISTENT, KINDS, PLACES, PROBLEMS, REFUSALS, REFUSED, ROOT, WITHDRAWN,
+                     CommandTest, figure, known, lost_and_leaked, page_rows)
 
 LISTING = os.path.join(ROOT, 'target', 'bin', 'listing')
 
@@ -31,8 +31,10 @@ def figures(answer):
     put('PROBLEM', *(n for p in r['problems']['first'] for n in (p['number'], p['block'])))
     put('OVERLAPS', r['overlaps']['total'])
     put('OVERLAP', *(n for o in r['overlaps']['first'] for n in (o['block'], o['owner']['number'], o['claimant']['number'])))
-    put('LOST', *(kind['count'] for kind in r['lost']['kinds']))
-    put('FIRST_LOST', *(kind['first'] or 0 for kind in r['lost']['kinds']))
+    kinds = r['lost']['kinds']
+    for row, some in ('', kinds[:BASE_KINDS]), ('LATER_', kinds[BASE_KINDS:]):
+        put(f'{row}LOST', *(kind['count'] for kind in some))
+        put(f'{row}FIRST_LOST', *(kind['first'] or 0 for kind in some))
     put('VERDICT', r['verdict']['number'])
     return found
 
@@ -64,6 +66,7 @@ class Answers(CommandTest):
     def names_agree(self, answer):
         """A number and the name beside it."""
         report = answer['report']
+        self.assertEqual([kind['number'] for kind in report['lost']['kinds']], list(KINDS))
         kinds = report['lost']['kinds'] + [o[who] for o in report['overlaps']['first'] for who in ('owner', 'claimant')]
         for kind in kinds:
             self.assertEqual(kind['name'], KINDS[kind['number']])

@@ -8,7 +8,7 @@ import time
 import unittest
 import zlib
 
-from support import (BLOCK, COMMAND, CONSISTENT, INCONSISTENT, NO_ANSWER, REFUSED, SAMPLE, CommandTest, lost_and_leaked,
+from support import (BLOCK, COMMAND, CONSISTENT, INCONSISTENT, KINDS, NO_ANSWER, REFUSED, SAMPLE, CommandTest, lost_and_leaked,
                      sample, slow)
 
 APFS = '7C3457EF-0000-11AA-AA11-00306543ECAC'
@@ -125,6 +125,25 @@ class Files(CommandTest):
         answer = self.json_of(image)
         self.assertEqual((answer['answer'], answer['block_count']), ('consistent', 256 * MIB // BLOCK))
         self.assertEqual(answer['report']['free'], answer['report']['device_free'])
+
+    def test_a_volume_by_mkapfs(self):
+        """Its superblock tells where its trees are, of a node each; the file-system tree alone, of subtype 14, has no owner."""
+        image = self.sparse('mkapfs.img', 256 * MIB)
+        self.must('mkapfs', image)
+        self.assertEqual(self.run_command('--quiet', image, '--map', 'map')[0], CONSISTENT)
+        content, cells = self.read(image), self.read('map')
+        [volume] = (at for at in range(0, len(content), BLOCK) if content[at + 32:at + 36] == b'APSB')
+
+        def number(at, width=8):
+            return int.from_bytes(content[at:at + width], 'little')
+
+        object_map = number(volume + 128)
+        owners = {volume // BLOCK: 'volume superblock', object_map: 'object map',
+                  number(object_map * BLOCK + 48): 'object map node',
+                  number(volume + 144): 'extent-reference tree node', number(volume + 152): 'snapshot tree node'}
+        self.assertEqual({block: KINDS.get(cells[block] & 15) for block in owners}, owners)
+        leaked = [block for block, cell in enumerate(cells) if cell == 16]
+        self.assertEqual([number(block * BLOCK + 28, 4) for block in leaked], [14])
 
 
 class Places(CommandTest):

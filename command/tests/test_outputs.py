@@ -155,6 +155,15 @@ class Pictures(CommandTest):
             cut += bool(more)
         self.assertGreater(min(*drawn.values(), cut), 5)
 
+    def test_nodes_of_a_volume(self):
+        image = self.sparse('mkapfs.img', 256 * MIB)
+        self.must('mkapfs', image)
+        picture, blocks = self.drawn(image)
+        expected = [colour_of(byte) for byte in blocks]
+        self.assertEqual([picture.cell(i) for i in range(len(blocks))], expected)
+        self.assertEqual([expected.count(OWNERS[kind]) for kind in (10, 11)], [1, 1])
+        self.legend_agrees(picture, expected)
+
     def test_cells_of_several_blocks(self):
         image = self.sparse('mkapfs.img', 520 * MIB + BLOCK)  # the last row and the last cell aren't full
         self.must('mkapfs', image)

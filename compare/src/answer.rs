@@ -104,7 +104,7 @@ mod tests {
         (report.xid, report.problems, report.overlaps) = (7, 1, 11);
         report.first_problems[0] = Problem { kind: ProblemKind::BitmapUsed.number(), block: 6 };
         report.first_overlaps = [Overlap { block: 5, owner: 2, claimant: 9 }; LOGGED];
-        report.lost[Kind::FreeQueue.number() as usize - 1] = Lost { count: 3, first: 8 };
+        report.lost[Kind::SnapshotNode.number() as usize - 1] = Lost { count: 3, first: 8 };
         (report.free, report.leaked) = (4, 10);
         let numbers = Answer::Reported(Box::new(report)).numbers().try_into().expect("as many as figures");
         let read = Read::of_figures(&numbers).expect("a report");
@@ -112,7 +112,7 @@ mod tests {
         assert_eq!((read.overlaps.total, read.overlaps.first.len(), read.lost_blocks()), (11, LOGGED, 3));
         assert_eq!((read.xid, read.free, read.leaked, read.verdict), (7, 4, 10, Verdict::Inconsistent));
         let last = read.lost.last().expect("a kind");
-        assert_eq!((last.kind, last.first), (Kind::FreeQueue, Some(8)));
+        assert_eq!((last.kind, last.first), (Kind::SnapshotNode, Some(8)));
     }
 
     #[test]

@@ -11,7 +11,8 @@ use crate::image::Image;
 use crate::model::{HIGHEST_COUNT, WALK_LEVELS};
 use crate::outside::Outside;
 use crate::recipes::{
-    area_to_end, chain_of, deleted_of_lengths, first_mapping, queue_entry, queue_ghost, read_both_ways, repeats_of,
+    area_to_end, chain_of, deleted_of_lengths, extent_chain, extent_repeats, first_mapping, map_at, queue_entry,
+    queue_ghost, read_both_ways, repeats_of,
 };
 use crate::rng::Rng;
 use crate::seeds::Base;
@@ -135,6 +136,27 @@ pub const BOUNDARIES: &[Boundary] = &[
         rule: Outside::Added(Refusal::TooManyNodes),
         near: |d| chain_of(d, WALK_LEVELS),
         far: |d| chain_of(d, WALK_LEVELS + 1),
+        near_refusal: None,
+    },
+    Boundary {
+        name: "volume nodes",
+        rule: Outside::Added(Refusal::TooManyNodes),
+        near: |d| extent_repeats(d, 0),
+        far: |d| extent_repeats(d, 1),
+        near_refusal: None,
+    },
+    Boundary {
+        name: "volume levels",
+        rule: Outside::Added(Refusal::TooManyNodes),
+        near: |d| extent_chain(d, WALK_LEVELS),
+        far: |d| extent_chain(d, WALK_LEVELS + 1),
+        near_refusal: None,
+    },
+    Boundary {
+        name: "volume map",
+        rule: Outside::MapInBlockZero,
+        near: |d| map_at(d, None),
+        far: |d| map_at(d, Some(0)),
         near_refusal: None,
     },
     Boundary {

@@ -2,8 +2,7 @@
 
 use crate::address_block;
 use crate::fields::{
-    checkpoint_map, chunk, chunk_info, manager as m, mapped, mapping, object, object_map, put_list, queue,
-    superblock as s,
+    checkpoint_map, chunk, chunk_info, manager as m, mapped, mapping, object, put_list, queue, superblock as s,
 };
 use crate::fletcher::seal;
 use crate::free_list::FreeList;
@@ -11,13 +10,14 @@ use crate::nodes::{bytes_of, Entry, Sizes, Tree};
 use crate::places::Places;
 use crate::rng::Rng;
 use crate::shape::{QueueShape, Shape};
+use crate::volume;
 
 // Object ids of the build.
 const MANAGER_ID: u64 = 0x400;
 const OTHER_ID: u64 = 0x401;
 const POOL_QUEUE_ID: u64 = 0x410;
 const MAIN_QUEUE_ID: u64 = 0x440;
-const VOLUME_ID: u64 = 0x480;
+const MAPPED_ID: u64 = 0x480;
 /// Set in an area's length, it says that the area isn't one piece.
 const TOP_BIT: u64 = 0x8000_0000;
 
@@ -29,6 +29,7 @@ struct Build<'a> {
     image: Vec<u8>,
     /// The lowest xid of a checkpoint.
     xid: u64,
+    volumes: volume::Built,
 }
 
 /// Blocks of the data ring that a build has given away.
@@ -43,7 +44,8 @@ pub fn build(shape: &Shape, rng: &mut Rng) -> Vec<u8> {
     let places = Places::choose(shape, rng);
     let image = vec![0; places.count as usize * shape.block_size];
     let xid = rng.between(5, 500);
-    let mut build = Build { shape, places, rng, image, xid };
+    let mut build = Build { shape, places, rng, image, xid, volumes: volume::Built::default() };
+    build.volumes();
     build.object_map();
     let infos = build.pool_and_chunks();
     let ephemeral = build.data_area(&infos);
@@ -80,27 +82,27 @@ impl Build<'_> {
         &mut self.image[address as usize * size..][..size]
     }
 
+    /// The xid of the checkpoint that is taken.
+    fn taken_xid(&self) -> u64 {
+        // The newest, unless it is torn or has the xid of the one before it.
+        let back = u64::from(self.shape.torn || self.shape.equal_xids);
+        self.xid + self.shape.checkpoints - 1 - back
+    }
+
+    fn volumes(&mut self) {
+        let xid = self.taken_xid();
+        let (shape, places) = (self.shape, &self.places);
+        self.volumes = volume::Volumes { shape, places, image: &mut self.image, rng: self.rng, xid }.build();
+    }
+
     fn object_map(&mut self) {
         let (at, root, xid) = (self.places.object_map, self.places.nodes[0], self.xid);
-        let block = self.block(at);
-        object::ID.set(block, at);
-        object::XID.set(block, xid);
-        object::TYPE.set(block, object::OBJECT_MAP | object::PHYSICAL);
-        object_map::TREE_TYPE.set(block, object::ROOT_NODE | object::PHYSICAL);
-        object_map::ROOT.set(block, root);
-        seal(block);
-        let mut volumes = self.places.volumes.clone().into_iter();
-        let mut entries: Vec<Entry> = Vec::new();
-        for i in 0..self.shape.mapping_entries() {
-            let volume = if Shape::is_ghost(i) { None } else { volumes.next() };
-            entries.push(match volume {
-                Some(place) if self.shape.deletes && self.rng.chance(50) => self.deleted(i, place, entries.last()),
-                _ => (bytes_of(&[VOLUME_ID + i, xid]), volume.map(|place| self.live(place))),
-            });
-        }
-        let leaves = (0..self.shape.object_map.leaves())
-            .map(|i| entries[(i * self.shape.mappings) as usize..][..self.shape.mappings as usize].to_vec())
-            .collect();
+        volume::write_object_map(self.block(at), at, xid, root);
+        let mut entries = self.mappings();
+        entries.append(&mut self.volumes.mappings);
+        entries.sort_by_key(|(key, _)| (mapped::ID.of(key), mapped::XID.of(key)));
+        let leaves = self.shape.object_map.leaves() as usize;
+        let cut = |leaf: usize| leaf * entries.len() / leaves;
         let tree = Tree {
             shape: self.shape.object_map,
             sizes: Sizes { key: mapped::SIZE, value: mapped::SIZE },
@@ -108,13 +110,27 @@ impl Build<'_> {
             subtype: object::OBJECT_MAP,
             blocks: &self.places.nodes,
             pointers: &self.places.nodes,
-            leaves,
+            leaves: (0..leaves).map(|leaf| entries[cut(leaf)..cut(leaf + 1)].to_vec()).collect(),
         };
         tree.write(&mut self.image, self.shape.block_size, self.rng);
     }
 
+    /// The mappings that are no volume's.
+    fn mappings(&mut self) -> Vec<Entry> {
+        let mut blocks = self.places.mapped.clone().into_iter();
+        let mut entries: Vec<Entry> = Vec::new();
+        for i in 0..self.shape.mapping_entries() {
+            let block = if Shape::is_ghost(i) { None } else { blocks.next() };
+            entries.push(match block {
+                Some(place) if self.shape.deletes && self.rng.chance(50) => self.deleted(i, place, entries.last()),
+                _ => (bytes_of(&[MAPPED_ID + i, self.xid]), block.map(|place| self.live(place))),
+            });
+        }
+        entries
+    }
+
     fn mapping_value(&self, flags: u64, address: u64) -> Vec<u8> {
-        bytes_of(&[(self.shape.block_size as u64) << 32 | flags, address])
+        volume::mapping_value(self.shape.block_size, flags, address)
     }
 
     /// Flags that mean nothing, in containers that have some.
@@ -134,7 +150,7 @@ impl Build<'_> {
     /// Mapping `i`, deleted, which names any block: of an id of its own, an older one of the next mapping's id, or a newer
     /// one of the id of the mapping before it. Keys rise in each case.
     fn deleted(&mut self, i: u64, place: u64, before: Option<&Entry>) -> Entry {
-        let own = (VOLUME_ID + i, self.xid);
+        let own = (MAPPED_ID + i, self.xid);
         let newer = before.map_or(own, |(key, _)| (mapped::ID.of(key), mapped::XID.of(key) + 1));
         let (id, xid) = *self.rng.pick(&[own, (own.0 + 1, own.1 - 1), newer]);
         let far = *self.rng.pick(&[self.places.count, u64::MAX - 1, u64::MAX]);
@@ -382,7 +398,6 @@ impl Build<'_> {
         }
     }
 
-    /// Its volume ids are 0: a pass doesn't read them.
     fn superblock(&mut self, at: u64, xid: u64, index: u64) {
         let (shape, places) = (self.shape, &self.places);
         let fields = [
@@ -401,9 +416,11 @@ impl Build<'_> {
             (s::DESCRIPTOR_LENGTH, shape.chain + 1),
             (s::MANAGER_ID, MANAGER_ID),
             (s::OBJECT_MAP, places.object_map),
+            (s::VOLUMES, self.volumes.places),
         ];
+        let ids: Vec<_> = (0..).map(s::volume_id).zip(self.volumes.ids.iter().copied()).collect();
         let block = self.block(at);
-        fields.into_iter().for_each(|(field, value)| field.set(block, value));
+        fields.into_iter().chain(ids).for_each(|(field, value)| field.set(block, value));
         seal(block);
     }
 

@@ -9,7 +9,7 @@ use crate::answer::{Answer, Problem, Report};
 use crate::image::Image;
 use crate::judge::{is_due, Judgement, LAST_UNTOUCHED};
 use crate::messages;
-use crate::model::{Notes, Pass, HIGHEST_COUNT, WALK_LEVELS};
+use crate::model::{Notes, Pass, Reached, Stage, HIGHEST_COUNT, WALK_LEVELS};
 use crate::outside::Outside;
 use crate::recipes::RECIPES;
 use crate::worker::Reply;
@@ -18,6 +18,8 @@ use crate::worker::Reply;
 #[derive(Clone, Debug, PartialEq, Eq, PartialOrd, Ord)]
 pub enum Row {
     Refusal(Refusal),
+    /// A refusal that is met among the volumes.
+    Volume(Stage, Refusal),
     /// The rule by which the original is no reference.
     Outside(Outside),
     Verdict(Verdict),
@@ -61,9 +63,22 @@ const DELETED_REFUSED: &str = "a refusal after a deleted mapping";
 const ADDRESS_AFTER: &str = "an unmarked address block after another problem";
 const ADDRESS_REPORTED: &str = "a report with address blocks";
 const ADDRESS_REFUSED: &str = "a refusal with address blocks";
+// How a volume's lookup fails, a fault that comes before another, and what a map out of order comes to.
+const REACHED_NOTHING: &str = "23: no mapping at or below the volume's";
+const REACHED_GHOST: &str = "23: a ghost";
+const REACHED_OTHER: &str = "23: a mapping of another id";
+const REACHED_DELETED: &str = "23: a deleted mapping";
+const FOREIGN_BROKEN: &str = "13: a volume mapped to what doesn't verify and is no volume";
+const UNORDERED_FOUND: &str = "a report, volumes found in an object map out of order";
+const UNORDERED_MISSED: &str = "23: an object map out of order";
+// What the two openings come to, and the near side of refusal 22 in the volumes' walks.
+const LOADED: &str = "a report, every volume's object map can be loaded";
+const UNLOADED: &str = "a report, a volume's object map can't be loaded";
+const NEAR_22_VOLUME_NODES: &str = "near 22: a report after a volume's walk of as many nodes as blocks";
+const NEAR_22_VOLUME_LEVELS: &str = "near 22: a report after a volume's walk of 33 levels";
 const DAMAGES: &str = "several damages";
 
-const FINDINGS: [&str; 29] = [
+const FINDINGS: [&str; 40] = [
     MANY_PROBLEMS,
     MANY_OVERLAPS,
     UNUSED,
@@ -92,11 +107,22 @@ const FINDINGS: [&str; 29] = [
     ADDRESS_AFTER,
     ADDRESS_REPORTED,
     ADDRESS_REFUSED,
+    REACHED_NOTHING,
+    REACHED_GHOST,
+    REACHED_OTHER,
+    REACHED_DELETED,
+    FOREIGN_BROKEN,
+    UNORDERED_FOUND,
+    UNORDERED_MISSED,
+    LOADED,
+    UNLOADED,
+    NEAR_22_VOLUME_NODES,
+    NEAR_22_VOLUME_LEVELS,
     DAMAGES,
 ];
 
 /// The shapes that have to be met, as the survey names them.
-const SHAPES: [&str; 38] = [
+const SHAPES: [&str; 53] = [
     "block size 4096",
     "block size 8192",
     "block size 16384",
@@ -129,6 +155,21 @@ const SHAPES: [&str; 38] = [
     "object map with ghosts",
     "object map with deleted mappings",
     "deleted mapping beside a live one of its id",
+    "several live mappings of one id",
+    "mapping above the checkpoint's xid",
+    "several volumes",
+    "zero before a volume id",
+    "volume id repeated",
+    "volume in the last place",
+    "volume id behind the last place",
+    "tree of two volumes",
+    "volume with the container's object map",
+    "volume whose object map can't be loaded",
+    "volume without a snapshot tree",
+    "volume's tree of 1 level(s)",
+    "volume's tree of 2 level(s)",
+    "volume's tree of 3 level(s)",
+    "volume's tree of 4 level(s)",
     "queue of 1 level(s)",
     "queue of 2 level(s)",
     "queue of 3 level(s)",
@@ -142,6 +183,7 @@ impl fmt::Display for Row {
         match self {
             // Its name in words is a sentence.
             Row::Refusal(refusal) => write!(f, "refusal {}: {refusal:?}", refusal.number()),
+            Row::Volume(stage, refusal) => write!(f, "refusal {} at a volume's {}", refusal.number(), stage.name()),
             Row::Outside(rule) => write!(f, "outside by {rule}"),
             Row::Verdict(verdict) => write!(f, "verdict {}: {verdict}", verdict.number()),
             Row::Problem(kind) => write!(f, "problem {}: {kind}", kind.number()),
@@ -159,6 +201,8 @@ impl fmt::Display for Row {
 pub fn wanted() -> Vec<Row> {
     let kinds = || Kind::ALL.iter().copied();
     let mut rows: Vec<Row> = Refusal::ALL.iter().copied().map(Row::Refusal).collect();
+    let at_stage = |(stage, met): (Stage, &'static [Refusal])| met.iter().map(move |&r| Row::Volume(stage, r));
+    rows.extend(Stage::REFUSALS.into_iter().flat_map(at_stage));
     rows.extend(Outside::all().into_iter().map(Row::Outside));
     rows.extend(Verdict::ALL.iter().copied().map(Row::Verdict));
     rows.extend(ProblemKind::ALL.iter().copied().map(Row::Problem));
@@ -178,6 +222,7 @@ pub fn rows(pass: &Pass, image: &Image) -> BTreeSet<Row> {
     match &pass.answer {
         Answer::Refused(refusal) => {
             rows.insert(Row::Refusal(*refusal));
+            rows.extend(pass.notes.volumes.stage.map(|stage| Row::Volume(stage, *refusal)));
             rows.extend(refusal_rows(*refusal, &pass.notes));
         }
         Answer::Reported(report) => {
@@ -195,7 +240,15 @@ pub fn rows(pass: &Pass, image: &Image) -> BTreeSet<Row> {
 }
 
 fn refusal_rows(refusal: Refusal, notes: &Notes) -> Vec<Row> {
+    let reached = |what| refusal == Refusal::VolumeUnmapped && notes.volumes.reached == Some(what);
+    let at_superblock = notes.volumes.stage == Some(Stage::Superblock);
     held(&[
+        (FOREIGN_BROKEN, at_superblock && notes.volumes.foreign && refusal == Refusal::BadChecksum),
+        (REACHED_NOTHING, reached(Reached::Nothing)),
+        (REACHED_GHOST, reached(Reached::Ghost)),
+        (REACHED_OTHER, reached(Reached::OtherId)),
+        (REACHED_DELETED, reached(Reached::Deleted)),
+        (UNORDERED_MISSED, refusal == Refusal::VolumeUnmapped && notes.mappings.out_of_order),
         (LONGER_MAP_REFUSED, refusal > LAST_UNTOUCHED && !notes.map_exact),
         (NEAR_4, notes.count == HIGHEST_COUNT && refusal == Refusal::MissingBlocks),
         (DELETED_REFUSED, notes.outside == Some(Outside::DeletedMapping)),
@@ -205,7 +258,13 @@ fn refusal_rows(refusal: Refusal, notes: &Notes) -> Vec<Row> {
 
 /// What a report's notes tell.
 fn noted_rows(notes: &Notes) -> Vec<Row> {
+    let volumes = &notes.volumes;
     held(&[
+        (UNORDERED_FOUND, volumes.claimed > 0 && notes.mappings.out_of_order),
+        (LOADED, volumes.claimed > 0 && !volumes.unloaded),
+        (UNLOADED, volumes.unloaded),
+        (NEAR_22_VOLUME_NODES, volumes.walked.nodes == notes.count),
+        (NEAR_22_VOLUME_LEVELS, volumes.walked.levels == WALK_LEVELS),
         (CHAIN_SUM, notes.chain_sum_overflowed),
         (CHAIN_REPEATS, notes.repeated_chain > 0),
         (CHAIN_LONG, notes.repeated_chain > 1 << 16),
@@ -267,6 +326,8 @@ struct Tally {
 pub struct Coverage {
     rows: BTreeMap<Row, Tally>,
     all: Tally,
+    /// Images on which the two openings ended in the same way, and on which the second failed.
+    openings: [u64; 2],
     /// How often an error's message told of one refusal, or of none, where the model gave another, or the same.
     messages: BTreeMap<(Refusal, Option<Refusal>), u64>,
 }
@@ -274,7 +335,7 @@ pub struct Coverage {
 impl Coverage {
     pub fn new() -> Self {
         let rows = wanted().into_iter().map(|row| (row, Tally::default())).collect();
-        Coverage { rows, all: Tally::default(), messages: BTreeMap::new() }
+        Coverage { rows, all: Tally::default(), openings: [0; 2], messages: BTreeMap::new() }
     }
 
     pub fn add(&mut self, judgement: &Judgement, image: &Image) {
@@ -282,6 +343,9 @@ impl Coverage {
             self.rows.entry(row).or_default().add(judgement, &image.ways);
         }
         self.all.add(judgement, &image.ways);
+        if judgement.loading.is_some() {
+            self.openings[usize::from(judgement.pass.notes.volumes.unloaded)] += 1;
+        }
         if let (true, Some(Reply::Error(message)), Answer::Refused(refusal)) =
             (is_due(&judgement.pass), &judgement.original, &judgement.pass.answer)
         {
@@ -348,6 +412,11 @@ impl fmt::Display for Coverage {
                 t.ways.len()
             )?;
         }
+        let [same, out] = self.openings;
+        writeln!(
+            f,
+            "volumes opened by loading their object maps: {same} images end in the same way, on {out} an opening fails"
+        )?;
         self.write_messages(f)
     }
 }

@@ -51,6 +51,8 @@ pub enum Disagreement {
     OriginalErrs(String),
     /// A panic where the model meets no slice and no sum.
     OriginalPanics(String),
+    /// How the original ended with each of the two openings.
+    Openings([String; 2]),
     NoAnswer(Party, String),
     Unreadable(Party, String),
     /// The library wrote what isn't its own.
@@ -115,6 +117,9 @@ impl fmt::Display for Disagreement {
             OriginalErrs(message) => write!(f, "the original errs where the model reports: {message}"),
             OriginalPanics(message) => {
                 write!(f, "the original panics where the model meets no slice and no sum: {message}")
+            }
+            Openings([a, b]) => {
+                write!(f, "the original ends with `{a}`, and where it loads the volumes' maps with `{b}`")
             }
             NoAnswer(party, how) => write!(f, "{party} gives no answer: {how}"),
             Unreadable(party, line) => write!(f, "what {party} says can't be read: {line}"),

@@ -67,6 +67,9 @@ pub mod object {
     pub const FREE_QUEUE: u64 = 9;
     pub const OBJECT_MAP: u64 = 11;
     pub const CHECKPOINT_MAP: u64 = 12;
+    pub const VOLUME: u64 = 13;
+    pub const EXTENT_TREE: u64 = 15;
+    pub const SNAPSHOT_TREE: u64 = 16;
 
     /// Stored beside the kind in a type: an ephemeral and a physical object.
     pub const EPHEMERAL: u64 = 0x8000_0000;
@@ -89,11 +92,19 @@ pub mod superblock {
         DESCRIPTOR_LENGTH "descriptor length" 140 4;
         MANAGER_ID "manager id" 152 8;
         OBJECT_MAP "object map" 160 8;
+        VOLUMES "volume places" 180 4;
     }
     /// The bytes NXSB.
     pub const NXSB: u64 = 0x4253_584e;
     /// Features that the check refuses: version 1 and fusion.
     pub const REFUSED_FEATURES: u64 = 0x101;
+    /// So many places for volume ids count at most; one that holds 0 has no volume.
+    pub const MOST_VOLUMES: u64 = 100;
+
+    /// The volume id in place `i`.
+    pub fn volume_id(i: usize) -> Field {
+        Field { name: "volume id", at: 184 + i * 8, width: 8 }
+    }
 }
 
 /// A block of the checkpoint map.
@@ -208,6 +219,19 @@ pub mod object_map {
     /// The storage type is the tree type's top two bits; 1 is physical.
     pub const STORAGE_SHIFT: u32 = 30;
     pub const PHYSICAL: u64 = 1;
+}
+
+/// A volume's superblock.
+pub mod volume {
+    use super::Field;
+    fields! {
+        MAGIC "magic" 32 4;
+        OBJECT_MAP "object map" 128 8;
+        EXTENT_TREE "extent-reference tree" 144 8;
+        SNAPSHOT_TREE "snapshot tree" 152 8;
+    }
+    /// The bytes APSB.
+    pub const APSB: u64 = 0x4253_5041;
 }
 
 /// A tree node.

@@ -2,8 +2,9 @@
 //!
 //! The original is the reference where it is one: on images that no rule takes out (`Outside`) and on which it neither
 //! panics nor aborts. There its report must be the model's, in the numbers that it has and block by block, and its error
-//! must meet a refusal, of whichever number. The library, where linked, must give the model's answer and map everywhere
-//! and the original's where that is the reference. Model and library get the map in two fills.
+//! must meet a refusal, of whichever number. What stands for its opening of volumes always succeeds there; with the other
+//! opening it must end in the same way, wherever that opens every volume. The library, where linked, must give the model's
+//! answer and map everywhere and the original's where that is the reference. Model and library get the map in two fills.
 
 use std::io;
 
@@ -14,7 +15,7 @@ use crate::disagreement::{Disagreement, Party};
 use crate::fill::{Fill, FILLS};
 use crate::library;
 use crate::model::{self, Pass};
-use crate::oracle;
+use crate::oracle::{self, Opening};
 use crate::worker::{Reply, Who, Worker, LARGE};
 
 pub struct Judgement {
@@ -23,6 +24,8 @@ pub struct Judgement {
     pub left: Vec<u8>,
     /// Nothing where the original wasn't asked.
     pub original: Option<Reply>,
+    /// The same with the opening that loads object maps, where a volume was to be opened.
+    pub loading: Option<Reply>,
     /// What doesn't fit, where something doesn't.
     pub disagreement: Option<Disagreement>,
 }
@@ -37,13 +40,17 @@ pub enum Ask {
 pub fn judge(worker: &mut Worker, image: &[u8], map_length: usize, ask: Ask) -> io::Result<Judgement> {
     let mut left = Fill::Listed.map(map_length);
     let pass = model::check(image, &mut left);
-    let original = ask_original(worker, image, map_length, &pass, ask)?;
+    let mut asked = |opening| ask_original(worker, image, map_length, &pass, opening);
+    let original = (ask == Ask::Always || is_due(&pass)).then(|| asked(Opening::Succeeds)).transpose()?;
+    let loading = opens(&pass, original.as_ref()).then(|| asked(Opening::LoadsMap)).transpose()?;
     let reply = original.as_ref();
-    let mut disagreement = model_breaks(image, &pass, &left).or_else(|| original_parts(&pass, &left, reply));
+    let mut disagreement = model_breaks(image, &pass, &left)
+        .or_else(|| original_parts(&pass, &left, reply))
+        .or_else(|| openings_part(&pass, reply?, loading.as_ref()?));
     if library::LINKED && disagreement.is_none() {
         disagreement = library_parts(worker, image, &pass, &left, reply)?;
     }
-    Ok(Judgement { pass, left, original, disagreement })
+    Ok(Judgement { pass, left, original, loading, disagreement })
 }
 
 /// Holds a judgement against the answer and the map that are kept for its image.
@@ -56,17 +63,27 @@ fn ask_original(
     image: &[u8],
     map_length: usize,
     pass: &Pass,
-    ask: Ask,
-) -> io::Result<Option<Reply>> {
-    if ask == Ask::WhereDue && !is_due(pass) {
-        return Ok(None);
-    }
-    let reply = worker.ask(Who::Original, image, map_length)?;
+    opening: Opening,
+) -> io::Result<Reply> {
+    let who = Who::Original(opening);
+    let reply = worker.ask(who, image, map_length)?;
     if reply == Reply::Abort && must_answer(pass) {
         // It may have wanted more memory or time than most images do.
-        return Worker::new(LARGE).ask(Who::Original, image, map_length).map(Some);
+        return Worker::new(LARGE).ask(who, image, map_length);
     }
-    Ok(Some(reply))
+    Ok(reply)
+}
+
+/// The original ends by itself after it came to the opening of a volume, as the model did.
+fn opens(pass: &Pass, original: Option<&Reply>) -> bool {
+    let comes_there = is_due(pass) && pass.notes.volumes.claimed > 0 && !pass.notes.chain_sum_overflowed;
+    comes_there && original.is_some_and(|reply| *reply != Reply::Abort)
+}
+
+/// An opening that fails is an error; one that doesn't changes nothing.
+fn openings_part(pass: &Pass, original: &Reply, loading: &Reply) -> Option<Disagreement> {
+    let fits = if pass.notes.volumes.unloaded { matches!(loading, Reply::Error(_)) } else { loading == original };
+    (!fits).then(|| Disagreement::Openings([original, loading].map(|reply| format!("{reply:?}"))))
 }
 
 /// The original comes to an end in the model's report, unless it reads a map chain again and again.

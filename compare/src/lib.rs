@@ -38,4 +38,5 @@ mod shrink;
 mod survey;
 pub mod text;
 pub mod verify;
+mod volume;
 pub mod worker;

@@ -4,6 +4,7 @@ use std::ops::Range;
 use std::process::ExitCode;
 use std::{env, fs, io};
 
+use compare::oracle::Opening;
 use compare::worker::{self, Reply, Who, Worker, LARGE};
 use compare::{listing, real, run, sample, text, verify};
 
@@ -87,7 +88,7 @@ fn originals(images: &[&str]) -> io::Result<bool> {
     let mut worker = Worker::new(LARGE);
     for path in images {
         let image = fs::read(path).map_err(|e| io::Error::other(format!("{path}: {e}")))?;
-        let reply = worker.ask(Who::Original, &image, 0)?;
+        let reply = worker.ask(Who::Original(Opening::Succeeds), &image, 0)?;
         match reply {
             Reply::Answer(numbers, map, _) => {
                 println!("{path}\nanswer {}\nleft {}", text::to_row(&numbers), text::to_hex(&map))

@@ -7,7 +7,7 @@
 use space_check::Refusal;
 
 /// A part of a message, and the refusal.
-const MESSAGES: [(&str, Refusal); 22] = [
+const MESSAGES: [(&str, Refusal); 24] = [
     ("I/O error", Refusal::ShortImage),
     ("NXSB", Refusal::NoMagic),
     ("block size", Refusal::BlockSize),
@@ -30,6 +30,8 @@ const MESSAGES: [(&str, Refusal); 22] = [
     ("outside node", Refusal::OutsideBytes),
     ("has no child", Refusal::OutsideBytes),
     ("child at level", Refusal::WrongLevel),
+    ("missing from the container object map", Refusal::VolumeUnmapped),
+    ("is not a volume superblock", Refusal::NotVolume),
 ];
 
 /// Nothing for a message of another kind.

@@ -1,7 +1,7 @@
 //! The rules of the check, stated once more: its refusals with their numbers, and its report.
 //!
 //! Written from the contract and not from the original, in the order of the contract: what block 0 says, the
-//! checkpoint, the object map, the manager, the pool and the chunks, the queues and the claims. It tells which
+//! checkpoint, the object map, the manager, the pool and the chunks, the queues, the claims and the volumes'. It tells which
 //! refusal an image meets, and so which images leave the comparison with the original.
 
 mod audit;
@@ -10,6 +10,7 @@ mod checkpoint;
 mod claims;
 mod manager;
 mod tree;
+mod volumes;
 
 use space_check::{Cell, Refusal, Verdict};
 
@@ -24,14 +25,16 @@ use claims::Claims;
 pub use claims::Mappings;
 use manager::Manager;
 pub use manager::Ring;
+pub use tree::ObjectMap;
+use tree::Walked;
 pub use tree::{Layout, WALK_LEVELS};
-use tree::{ObjectMap, Walked};
+pub use volumes::{volume_ids, Reached, Stage, Volumes};
 
 /// The highest block count.
 pub const HIGHEST_COUNT: u64 = 0xffff_ffff;
 
 /// What a pass met: what costs the original more than an error, how near it came to the rules that take images outside, and
-/// what the mappings were.
+/// what the mappings and the volumes were.
 #[derive(Clone, Copy, Default)]
 pub struct Notes {
     /// The block count, once refusal 4 isn't given.
@@ -45,6 +48,7 @@ pub struct Notes {
     pub queued_to_count: bool,
     pub walked: Walked,
     pub mappings: Mappings,
+    pub volumes: Volumes,
     /// A superblock's map chain failed to load by an overflowing sum, on which the original panics.
     pub chain_sum_overflowed: bool,
     /// The length of a chain that came round its ring without an end: the original reads all its blocks.
@@ -141,6 +145,7 @@ fn pass(blocks: &Blocks, taken: &Taken, cells: &mut [u8], notes: &mut Notes) -> 
     let mut claims = Claims { cells, report: &mut report, notes };
     claims.areas(taken.superblock, &manager)?;
     claims.object_map(blocks, &objects)?;
+    claims.volumes(blocks, taken, &objects)?;
     claims.queue(blocks, taken, manager.field(m::MAIN_QUEUE))?;
     report.xid = object::XID.of(taken.superblock);
     report.device_free = manager.field(m::FREE_COUNT);

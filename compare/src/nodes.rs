@@ -1,4 +1,4 @@
-//! Builds tree nodes, and trees of one to three levels.
+//! Builds tree nodes, and trees of one to four levels.
 
 use crate::fields::{description, fixed_slot, node, object, put, variable_slot};
 use crate::fletcher::seal;
@@ -147,11 +147,7 @@ impl Tree<'_> {
                 let number = first + i;
                 let leaf = depth + 1 == self.shape.levels;
                 let fixed = self.shape.mode.fixed(rng);
-                let entries = if leaf {
-                    self.leaves[i].clone()
-                } else {
-                    self.children(first + width + i * self.shape.fan as usize)
-                };
+                let entries = if leaf { self.leaves[i].clone() } else { self.children(depth, i, first + width) };
                 let node = Node {
                     id: self.pointers[number],
                     xid: self.xid,
@@ -169,10 +165,18 @@ impl Tree<'_> {
         }
     }
 
-    /// The entries of an index node whose children begin with node `first`.
-    fn children(&self, first: usize) -> Vec<Entry> {
-        let pointers = &self.pointers[first..first + self.shape.fan as usize];
-        pointers.iter().map(|p| (vec![0; self.sizes.key], Some(p.to_le_bytes().to_vec()))).collect()
+    /// The entries of index node `i` at a depth, the nodes below which begin with node `first`.
+    fn children(&self, depth: u64, i: usize, first: usize) -> Vec<Entry> {
+        let fan = self.shape.fan as usize;
+        let leaves_each = self.shape.fan.pow((self.shape.levels - depth - 2) as u32) as usize;
+        let child = |c: usize| (self.key_of(c * leaves_each), Some(self.pointers[first + c].to_le_bytes().to_vec()));
+        (i * fan..(i + 1) * fan).map(child).collect()
+    }
+
+    /// The first key from a leaf on, so that a search doesn't end in a leaf without entries where another has the key.
+    fn key_of(&self, leaf: usize) -> Vec<u8> {
+        let key = self.leaves[leaf..].iter().flatten().next().map(|(key, _)| key.clone());
+        key.unwrap_or_else(|| vec![0xff; self.sizes.key])
     }
 
     /// Keys and values get the stated sizes in a fixed node, and may be longer than needed in a variable one.

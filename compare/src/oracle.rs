@@ -7,7 +7,8 @@ use apfs::dev::BlockDevice;
 use apfs::Container;
 use space_check::{places, Cell, Kind, ProblemKind, Verdict, LOGGED};
 use winapfs::dump::space_check_container;
-use winapfs::{take_caught, Caught, Cells};
+pub use winapfs::Opening;
+use winapfs::{open_by, take_caught, Caught, Cells};
 
 use crate::answer::{Lost, Overlap, Problem, Report};
 
@@ -23,8 +24,8 @@ pub enum Ended {
     Unreadable(String),
 }
 
-/// The original has the answer's numbers up to the verdict.
-pub const NUMBERS: usize = places::VERDICT + 1;
+/// The original has so many of an answer's numbers: all up to the verdict, and those of the kinds behind it.
+pub const NUMBERS: usize = places::LATER_FIRST_LOST + (places::LATER_FIRST_LOST - places::LATER_LOST);
 
 /// Where the container is, as the original is told and prints it.
 pub const LOCATION: &str = "image";
@@ -43,9 +44,11 @@ pub fn pass(device: Box<dyn BlockDevice>) -> Result<(), String> {
     space_check_container(&container, LOCATION).map_err(|e| e.msg)
 }
 
-/// The original's answer. It may allocate without bound or run for ever: call it in a limited process.
-pub fn run(device: Box<dyn BlockDevice>) -> Ended {
+/// The original's answer, with one of the openings. It may allocate without bound or run for ever: call it in a limited
+/// process.
+pub fn run(device: Box<dyn BlockDevice>, opening: Opening) -> Ended {
     take_caught();
+    open_by(opening);
     let verdict = match catch_unwind(AssertUnwindSafe(|| pass(device))) {
         Ok(Ok(())) => Verdict::Consistent,
         Ok(Err(message)) if message == INCONSISTENT_ERROR => Verdict::Inconsistent,
@@ -246,11 +249,12 @@ mod tests {
     fn an_unknown_kind_is_no_owner() {
         let cells = |kinds| Cells { marked: vec![true], owner: vec![1], kinds, pool_used: Default::default() };
         assert_eq!(block_map(&cells(vec!["", "internal-pool bitmap ring"])), Ok(vec![5 | Cell::MARKED]));
+        assert_eq!(block_map(&cells(vec!["", "snapshot tree node"])), Ok(vec![11 | Cell::MARKED]));
         assert!(block_map(&cells(vec!["", "file data"])).is_err());
     }
 
     #[test]
     fn an_empty_image_errs() {
-        assert!(matches!(run(Box::new(Vec::new())), Ended::Error(_)));
+        assert!(matches!(run(Box::new(Vec::new()), Opening::Succeeds), Ended::Error(_)));
     }
 }

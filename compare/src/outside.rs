@@ -15,6 +15,8 @@ pub enum Outside {
     DeletedMapping,
     /// A manager with address blocks, which the original reads as chunk-info blocks.
     AddressBlocks,
+    /// A volume whose object map is at address 0: the original would read block 0 as that map, if it opened the volume.
+    MapInBlockZero,
 }
 
 /// Refusals that are added whole.
@@ -29,7 +31,8 @@ const ADDED: [Refusal; 6] = [
 
 impl Outside {
     pub fn all() -> Vec<Outside> {
-        let others = [Outside::QueuedPastCount, Outside::DeletedMapping, Outside::AddressBlocks];
+        let others =
+            [Outside::QueuedPastCount, Outside::DeletedMapping, Outside::AddressBlocks, Outside::MapInBlockZero];
         ADDED.map(Outside::Added).into_iter().chain(others).collect()
     }
 
@@ -38,13 +41,22 @@ impl Outside {
         ADDED.contains(&refusal).then_some(Outside::Added(refusal))
     }
 
-    /// Its short name: the number of the refusal that is met, where it is one.
-    pub fn label(self) -> String {
+    /// The refusal that is met, where the rule is one.
+    pub fn refusal(self) -> Option<Refusal> {
         match self {
-            Outside::Added(refusal) => refusal.number().to_string(),
-            Outside::QueuedPastCount => Refusal::Overflow.number().to_string(),
-            Outside::DeletedMapping => "deleted".into(),
-            Outside::AddressBlocks => "address".into(),
+            Outside::Added(refusal) => Some(refusal),
+            Outside::QueuedPastCount => Some(Refusal::Overflow),
+            Outside::MapInBlockZero => Some(Refusal::PastContainer),
+            Outside::DeletedMapping | Outside::AddressBlocks => None,
+        }
+    }
+
+    /// Its short name: the number of its refusal, where it has one.
+    pub fn label(self) -> String {
+        match (self, self.refusal()) {
+            (_, Some(refusal)) => refusal.number().to_string(),
+            (Outside::AddressBlocks, None) => "address".into(),
+            (_, None) => "deleted".into(),
         }
     }
 }
@@ -58,6 +70,9 @@ impl fmt::Display for Outside {
             }
             Outside::DeletedMapping => write!(f, "a deleted mapping"),
             Outside::AddressBlocks => write!(f, "address blocks"),
+            Outside::MapInBlockZero => {
+                write!(f, "refusal {}, a volume's object map in block 0", Refusal::PastContainer.number())
+            }
         }
     }
 }

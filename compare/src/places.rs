@@ -3,7 +3,7 @@
 use crate::rng::Rng;
 use crate::shape::Shape;
 
-// The parts: five areas, the object map, its nodes and then the volumes.
+// The parts: five areas, the object map, its nodes, the blocks that its mappings name and then those of the volumes.
 const DESCRIPTORS: usize = 0;
 const DATA: usize = 1;
 const BITMAPS: usize = 2;
@@ -22,6 +22,7 @@ pub struct Places {
     pub queued: u64,
     pub object_map: u64,
     pub nodes: Vec<u64>,
+    pub mapped: Vec<u64>,
     pub volumes: Vec<u64>,
     /// For each block, whether something uses it.
     pub used: Vec<bool>,
@@ -36,7 +37,8 @@ impl Places {
         for (&start, &length) in at.iter().zip(&lengths) {
             used[start as usize..(start + length) as usize].fill(true);
         }
-        let volumes = NODES + shape.object_map.nodes() as usize;
+        let mapped = NODES + shape.object_map.nodes() as usize;
+        let volumes = mapped + shape.mapped_blocks() as usize;
         Places {
             count,
             descriptors: at[DESCRIPTORS],
@@ -45,7 +47,8 @@ impl Places {
             pool: at[POOL],
             queued: at[QUEUED],
             object_map: at[OBJECT_MAP],
-            nodes: at[NODES..volumes].to_vec(),
+            nodes: at[NODES..mapped].to_vec(),
+            mapped: at[mapped..volumes].to_vec(),
             volumes: at[volumes..].to_vec(),
             used,
         }
@@ -54,7 +57,8 @@ impl Places {
 
 /// The blocks of each part.
 fn lengths(shape: &Shape) -> Vec<u64> {
-    let mut lengths = vec![1; NODES + (shape.object_map.nodes() + shape.volumes()) as usize];
+    let single = shape.object_map.nodes() + shape.mapped_blocks() + shape.volume_blocks();
+    let mut lengths = vec![1; NODES + single as usize];
     lengths[DESCRIPTORS] = shape.descriptor_blocks();
     lengths[DATA] = shape.data_blocks();
     lengths[BITMAPS] = shape.bitmap_blocks();

@@ -7,12 +7,14 @@ mod checkpoint;
 mod manager;
 mod mapping;
 mod tree;
+mod volume;
 
 use crate::draft::Draft;
 pub use address::read_both_ways;
 pub use checkpoint::area_to_end;
 pub use mapping::{deleted_of_lengths, first_mapping};
 pub use tree::{chain_of, queue_entry, queue_ghost, repeats_of};
+pub use volume::{extent_chain, extent_repeats, map_at};
 
 /// Says what it made, or nothing where the container has no place for it.
 type Recipe = fn(&mut Draft) -> Option<String>;
@@ -31,6 +33,22 @@ pub const RECIPES: &[(&str, Recipe)] = &[
     ("mapping deleted", mapping::deleted),
     ("deleted mapping cut short", mapping::deleted_short),
     ("mapping with other flags", mapping::other_flags),
+    ("object map out of order", mapping::out_of_order),
+    ("key that only a lookup reads cut short", mapping::short_key),
+    ("volume's mapping deleted", mapping::volume_deleted),
+    ("volume's mapping without a value", mapping::volume_ghost),
+    ("volume's mapping at another xid", mapping::volume_xid),
+    ("volume mapped elsewhere", mapping::volume_elsewhere),
+    ("volume that isn't mapped", mapping::volume_missing),
+    ("volume in every place", volume::places_full),
+    ("volume's object map elsewhere", volume::map_elsewhere),
+    ("volume's tree elsewhere", volume::tree_elsewhere),
+    ("volume's tree over nodes of others", volume::tree_shares),
+    ("volume's tree in a circle", volume::tree_circle),
+    ("volume's tree with repeats", volume::tree_repeats),
+    ("volume's tree as a chain", volume::tree_chain),
+    ("volume's tree with many keys in a node", volume::tree_keys),
+    ("volume's tree without a description", volume::tree_undescribed),
     ("superblock copied", checkpoint::copy_superblock),
     ("overflowing chain sum", checkpoint::overflowing_chain),
     ("ring of one", checkpoint::ring_of_one),

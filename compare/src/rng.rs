@@ -34,6 +34,11 @@ impl Rng {
         &items[self.below(items.len() as u64) as usize]
     }
 
+    /// One of a list, where it has any.
+    pub fn pick_any<'t, T>(&mut self, list: &'t [T]) -> Option<&'t T> {
+        (!list.is_empty()).then(|| self.pick(list))
+    }
+
     pub fn shuffle<T>(&mut self, items: &mut [T]) {
         for i in (1..items.len()).rev() {
             items.swap(i, self.below(i as u64 + 1) as usize);

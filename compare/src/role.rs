@@ -15,10 +15,15 @@ pub enum Role {
     ObjectMapNode,
     PoolQueueNode,
     MainQueueNode,
+    Volume,
+    VolumeMap,
+    VolumeMapNode,
+    ExtentNode,
+    SnapshotNode,
 }
 
 impl Role {
-    pub const ALL: [Role; 12] = [
+    pub const ALL: [Role; 17] = [
         Role::BlockZero,
         Role::Superblock,
         Role::CheckpointMap,
@@ -31,6 +36,21 @@ impl Role {
         Role::ObjectMapNode,
         Role::PoolQueueNode,
         Role::MainQueueNode,
+        Role::Volume,
+        Role::VolumeMap,
+        Role::VolumeMapNode,
+        Role::ExtentNode,
+        Role::SnapshotNode,
+    ];
+
+    /// The nodes of each tree.
+    pub const NODES: [Role; 6] = [
+        Role::ObjectMapNode,
+        Role::PoolQueueNode,
+        Role::MainQueueNode,
+        Role::VolumeMapNode,
+        Role::ExtentNode,
+        Role::SnapshotNode,
     ];
 
     pub fn name(self) -> &'static str {
@@ -47,10 +67,15 @@ impl Role {
             Role::ObjectMapNode => "object map node",
             Role::PoolQueueNode => "pool queue node",
             Role::MainQueueNode => "main queue node",
+            Role::Volume => "volume superblock",
+            Role::VolumeMap => "volume's object map",
+            Role::VolumeMapNode => "volume's map node",
+            Role::ExtentNode => "extent-reference tree node",
+            Role::SnapshotNode => "snapshot tree node",
         }
     }
 
-    /// The object's checksum is tested.
+    /// The object's checksum is tested, if only by the opening of a volume.
     pub fn sealed(self) -> bool {
         use Role::{AddressBlock, BlockZero, ChunkBitmap, ChunkInfo, PoolBitmap};
         !matches!(self, BlockZero | PoolBitmap | AddressBlock | ChunkInfo | ChunkBitmap)

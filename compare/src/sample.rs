@@ -19,12 +19,15 @@ const SEEDS: u64 = 20_000;
 const CONTAINERS: u64 = 500;
 /// Images of the list have at most so many bytes, where one can be.
 const LARGEST: usize = 65_536;
+/// For rows that no such image reaches, so many, and then any number.
+const LARGER: [usize; 4] = [1 << 18, 1 << 20, 1 << 21, usize::MAX];
 /// So many ways to each refusal, and so many images for each other row.
-const WAYS: usize = 14;
+const WAYS: usize = 12;
 const EXAMPLES: usize = 6;
-/// Fewer where the row says how an image was made.
-const RECIPES: usize = 4;
+/// Fewer where the row says how an image was made, or where among the volumes it is refused.
+const RECIPES: usize = 3;
 const SHAPES: usize = 2;
+const STAGES: usize = 2;
 
 const HEADER: &str = "\
 # Images with the answers of the original, for replaying where its sources are not at hand (tools/replay).
@@ -61,6 +64,7 @@ impl Choice {
                 seen < EXAMPLES || seen < WAYS && !self.ways.contains(&(row.clone(), way.clone()))
             }
             (Row::Refusal(_) | Row::Outside(_), [_, ..]) => false,
+            (Row::Volume(..), _) => seen < STAGES,
             (Row::Shape(_), _) => seen < SHAPES,
             (Row::Recipe(_), _) => seen < RECIPES,
             _ => seen < EXAMPLES,
@@ -73,7 +77,8 @@ fn chosen() -> BTreeSet<u64> {
     let mut choice = Choice::default();
     let mut seeds = BTreeSet::new();
     let mut builder = Builder::default();
-    for (largest, only_unreached) in [(LARGEST, false), (usize::MAX, true)] {
+    let larger = LARGER.map(|largest| (largest, true));
+    for (largest, only_unreached) in std::iter::once((LARGEST, false)).chain(larger) {
         for seed in 0..SEEDS {
             // Damage can't make a large container's image small without cutting what it is about.
             if builder.base(seed).bytes.len() > largest {
@@ -155,7 +160,7 @@ fn shows(boundary: &Boundary, [near, far]: &[Judgement; 2]) -> bool {
         Some(refusal) => near.pass.refusal() == Some(refusal) && !meets(near),
         None => is_due(&near.pass) && matches!(near.original, Some(Reply::Answer(..))),
     };
-    answered && meets(far)
+    answered && meets(far) && far.pass.refusal() == boundary.rule.refusal()
 }
 
 /// The fixed list as text; an error where the original and the model part on one of its images.
@@ -206,8 +211,7 @@ mod tests {
         for boundary in BOUNDARIES {
             let name = item_name(boundary);
             let (near, far) = (find(format!("{name}-near")), find(format!("{name}-far")));
-            // A rule that refuses is called by its number.
-            assert_eq!(far.answer[places::REFUSAL], boundary.rule.label().parse().unwrap_or(0), "{name}");
+            assert_eq!(far.answer[places::REFUSAL], boundary.rule.refusal().map_or(0, Refusal::number), "{name}");
             assert_eq!(near.answer[places::REFUSAL], boundary.near_refusal.map_or(0, Refusal::number), "{name}");
             assert!(boundary.near_refusal.is_some() || near.original == "report", "{name}");
         }

@@ -37,12 +37,90 @@ pub struct Shape {
     pub object_map: TreeShape,
     /// Entries of each leaf of the object map's tree; every fourth is a ghost.
     pub mappings: u64,
+    pub volumes: Vec<VolumeShape>,
+    /// How the volumes' ids stand in the superblocks' places.
+    pub ids: Ids,
     /// Some of the mappings are deleted ones, or have other flags.
     pub deletes: bool,
     pub pool_queue: Option<QueueShape>,
     pub main_queue: Option<QueueShape>,
     /// Blocks that nothing uses.
     pub free: u64,
+}
+
+/// A volume: a superblock, and three trees of which some can be those of another.
+#[derive(Clone, Debug)]
+pub struct VolumeShape {
+    /// Its object map's tree; without one its map is the container's.
+    pub map: Option<TreeShape>,
+    /// The map has only its root: its checksum, kind and tree type aren't what an object map has.
+    pub bare_map: bool,
+    /// Without one, that of the first volume, which has its own.
+    pub extents: Option<TreeShape>,
+    pub snapshots: Snapshots,
+    /// Mappings of its id below the one that counts, and mappings above the checkpoint's xid.
+    pub older: Vec<Other>,
+    pub newer: Vec<Other>,
+}
+
+#[derive(Clone, Debug)]
+pub enum Snapshots {
+    None,
+    /// The first volume's, or none where that has none.
+    Shared,
+    Own(TreeShape),
+}
+
+/// Another mapping of a volume's id.
+#[derive(Clone, Copy, Debug, PartialEq, Eq)]
+pub enum Other {
+    Ghost,
+    /// In a container with deleted mappings; elsewhere a ghost.
+    Deleted,
+    /// It names the volume's superblock too.
+    Same,
+    /// It names a block of its own, which is no superblock.
+    Own,
+}
+
+/// How the ids of the volumes stand.
+#[derive(Clone, Copy, Debug, PartialEq, Eq)]
+pub enum Ids {
+    InARow,
+    /// With zeros between them, some of them twice.
+    Mixed,
+    /// Up to the last place that counts, with another id behind that.
+    ToTheLast,
+}
+
+impl VolumeShape {
+    fn random(rng: &mut Rng, first: bool, levels: u64, most: u64) -> Self {
+        let others = |rng: &mut Rng| {
+            let count = if rng.chance(40) { rng.between(1, most) } else { 0 };
+            (0..count).map(|_| *rng.pick(&[Other::Ghost, Other::Deleted, Other::Same, Other::Own])).collect()
+        };
+        VolumeShape {
+            map: (!rng.chance(15)).then(|| tree(rng, levels)),
+            bare_map: rng.chance(15),
+            extents: (first || !rng.chance(30)).then(|| tree(rng, levels)),
+            snapshots: match rng.below(10) {
+                0..4 => Snapshots::None,
+                4 => Snapshots::Shared,
+                _ => Snapshots::Own(tree(rng, levels)),
+            },
+            older: others(rng),
+            newer: others(rng),
+        }
+    }
+
+    /// Its superblock, its map, the nodes of its own trees and the blocks of its other mappings.
+    fn blocks(&self) -> u64 {
+        let map = self.map.map_or(0, |tree| 1 + tree.nodes());
+        let extents = self.extents.map_or(0, |tree| tree.nodes());
+        let snapshots = if let Snapshots::Own(tree) = &self.snapshots { tree.nodes() } else { 0 };
+        let others = self.older.iter().chain(&self.newer).filter(|&&other| other == Other::Own).count() as u64;
+        1 + map + extents + snapshots + others
+    }
 }
 
 #[derive(Clone, Debug)]
@@ -110,6 +188,8 @@ impl Shape {
         let slots_most = single(rng, 50, 2);
         let map_most = single(rng, if small { 50 } else { 10 }, 3);
         let queue_mosts = [single(rng, 70, 3), single(rng, 70, 3)];
+        let levels = single(rng, if small { 80 } else { 30 }, 4);
+        let volumes = if rng.chance(75) { rng.between(1, most) } else { 0 };
         Shape {
             block_size,
             checkpoints,
@@ -131,6 +211,8 @@ impl Shape {
             chunks: rng.between(chunk_infos, chunk_infos * most),
             object_map: tree(rng, map_most),
             mappings: rng.below(most + 2),
+            volumes: (0..volumes).map(|i| VolumeShape::random(rng, i == 0, levels, most)).collect(),
+            ids: *rng.pick(&[Ids::InARow, Ids::Mixed, Ids::Mixed, Ids::ToTheLast]),
             deletes: rng.chance(8),
             pool_queue: rng.chance(60).then(|| QueueShape::random(rng, queue_mosts[0])),
             main_queue: rng.chance(60).then(|| QueueShape::random(rng, queue_mosts[1])),
@@ -168,7 +250,7 @@ impl Shape {
         self.address_blocks + self.chunk_infos + self.chunks + queued + self.pool_slack
     }
 
-    /// Leaf entries of the object map's tree.
+    /// Leaf entries of the object map's tree that are no volume's.
     pub fn mapping_entries(&self) -> u64 {
         self.object_map.leaves() * self.mappings
     }
@@ -177,8 +259,13 @@ impl Shape {
         mapping % 4 == 3
     }
 
-    pub fn volumes(&self) -> u64 {
+    /// The blocks that these name.
+    pub fn mapped_blocks(&self) -> u64 {
         (0..self.mapping_entries()).filter(|&i| !Self::is_ghost(i)).count() as u64
+    }
+
+    pub fn volume_blocks(&self) -> u64 {
+        self.volumes.iter().map(VolumeShape::blocks).sum()
     }
 
     pub fn queued_blocks(&self) -> u64 {
@@ -188,6 +275,7 @@ impl Shape {
     /// All blocks of the container.
     pub fn blocks(&self) -> u64 {
         let areas = self.descriptor_blocks() + self.data_blocks() + self.bitmap_blocks() + self.pool_blocks();
-        2 + areas + self.object_map.nodes() + self.volumes() + self.queued_blocks() + self.free
+        let mapped = self.object_map.nodes() + self.mapped_blocks() + self.volume_blocks();
+        2 + areas + mapped + self.queued_blocks() + self.free
     }
 }

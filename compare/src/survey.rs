@@ -3,7 +3,7 @@
 //! The container is a sound one, built here or by mkapfs; what a survey can't follow it leaves out.
 
 use crate::fields::*;
-use crate::model::{self, Blocks, Layout, Notes, Ring, Taken};
+use crate::model::{self, Blocks, Layout, Notes, ObjectMap, Ring, Taken};
 pub use crate::role::Role;
 
 #[derive(Clone, Debug)]
@@ -38,6 +38,7 @@ impl Survey {
         surveyor.descriptors(image);
         surveyor.manager()?;
         surveyor.object_map()?;
+        surveyor.volumes()?;
         Some(surveyor.survey)
     }
 
@@ -63,6 +64,11 @@ fn listed(bytes: &[u8], name: &'static str, offset: Field, count: Field, width: 
     (0..count.of(bytes) as usize).map(|i| Field { name, at: at + i * width, width }).collect()
 }
 
+/// Its tree's pointers are ids in the checkpoint map.
+fn is_queue(role: Role) -> bool {
+    [Role::PoolQueueNode, Role::MainQueueNode].contains(&role)
+}
+
 impl Surveyor<'_> {
     fn add(&mut self, role: Role, address: u64, fields: Vec<Field>) {
         self.add_bits(role, address, fields, 0);
@@ -80,7 +86,12 @@ impl Surveyor<'_> {
 
     /// Block 0 and the area that it names.
     fn descriptors(&mut self, image: &[u8]) {
-        let fields = [&[object::XID, object::TYPE], superblock::ALL].concat();
+        let sb = self.taken.superblock;
+        // One place without a volume stands for all of them.
+        let empty = (0..).map(superblock::volume_id).find(|id| id.of(sb) == 0);
+        let ids = (0..=superblock::MOST_VOLUMES as usize).map(superblock::volume_id).filter(|id| id.of(sb) != 0);
+        let ids: Vec<Field> = ids.chain(empty).collect();
+        let fields = [&[object::XID, object::TYPE], superblock::ALL, &ids].concat();
         self.add(Role::BlockZero, 0, fields.clone());
         let (base, ring) = (superblock::DESCRIPTOR_BASE.of(image), superblock::DESCRIPTOR_BLOCKS.of(image));
         let mut xids = Vec::new();
@@ -95,7 +106,6 @@ impl Surveyor<'_> {
                 _ => {}
             }
         }
-        let sb = self.taken.superblock;
         let (index, length) = (superblock::DESCRIPTOR_INDEX.of(sb), superblock::DESCRIPTOR_LENGTH.of(sb));
         self.feature(true, format!("block size {}", self.blocks.size));
         self.feature(xids.len() > 1, "several checkpoints");
@@ -203,6 +213,55 @@ impl Surveyor<'_> {
         Some(())
     }
 
+    /// The volumes that the taken superblock names, each time that it does.
+    fn volumes(&mut self) -> Option<()> {
+        let (blocks, sb) = (self.blocks, self.taken.superblock);
+        let objects = ObjectMap::load(&blocks, superblock::OBJECT_MAP.of(sb)).ok()?;
+        let ids = model::volume_ids(sb);
+        for &id in &ids {
+            let found = objects.reach(&blocks, (id, object::XID.of(sb))).ok()??;
+            self.volume(mapped::ADDRESS.of(found.value?))?;
+        }
+        self.volume_features(&ids);
+        Some(())
+    }
+
+    fn volume_features(&mut self, ids: &[u64]) {
+        let sb = self.taken.superblock;
+        let places = superblock::VOLUMES.of(sb);
+        let id_in = |place: u64| superblock::volume_id(place as usize).of(sb);
+        let last = (0..places.min(superblock::MOST_VOLUMES)).rev().find(|&place| id_in(place) != 0);
+        let zero = (0..last.unwrap_or(0)).any(|place| id_in(place) == 0);
+        let repeated = (1..ids.len()).any(|i| ids[..i].contains(&ids[i]));
+        self.feature(ids.len() > 1, "several volumes");
+        self.feature(zero, "zero before a volume id");
+        self.feature(repeated, "volume id repeated");
+        self.feature(last == Some(superblock::MOST_VOLUMES - 1), "volume in the last place");
+        let behind = places > superblock::MOST_VOLUMES && id_in(superblock::MOST_VOLUMES) != 0;
+        self.feature(behind, "volume id behind the last place");
+    }
+
+    fn volume(&mut self, address: u64) -> Option<()> {
+        let block = self.blocks.raw(address).ok()?;
+        self.add(Role::Volume, address, [&[object::TYPE], volume::ALL].concat());
+        let [map, extents, snapshots] =
+            [volume::OBJECT_MAP, volume::EXTENT_TREE, volume::SNAPSHOT_TREE].map(|f| f.of(block));
+        let shared = |role, address| self.survey.with_role(role).iter().any(|o: &&Object| o.blocks[0] == address);
+        let shares = [(Role::ExtentNode, extents), (Role::SnapshotNode, snapshots)].map(|(r, a)| shared(r, a));
+        self.feature(shares != [false; 2], "tree of two volumes");
+        self.feature(map == superblock::OBJECT_MAP.of(self.taken.superblock), "volume with the container's object map");
+        self.feature(ObjectMap::load(&self.blocks, map).is_err(), "volume whose object map can't be loaded");
+        self.feature(snapshots == 0, "volume without a snapshot tree");
+        self.add(Role::VolumeMap, map, [&[object::TYPE], object_map::ALL].concat());
+        let root = object_map::ROOT.of(self.blocks.raw(map).ok()?);
+        let trees = [(Role::VolumeMapNode, root), (Role::ExtentNode, extents), (Role::SnapshotNode, snapshots)];
+        for (role, root) in trees.into_iter().filter(|&(_, root)| root != 0) {
+            let levels = self.tree(role, root)?;
+            self.feature(true, format!("volume's tree of {levels} level(s)"));
+        }
+        Some(())
+    }
+
     fn queue(&mut self, role: Role, id: u64) {
         let Some(root) = self.taken.lookup(id).map(|m| m.address) else { return };
         if let Some(levels) = self.tree(role, root) {
@@ -226,8 +285,7 @@ impl Surveyor<'_> {
         self.add(role, address, fields);
         let mut below = 0;
         for pointer in children {
-            let child =
-                if role == Role::ObjectMapNode { Some(pointer) } else { self.taken.lookup(pointer).map(|m| m.address) };
+            let child = if is_queue(role) { self.taken.lookup(pointer).map(|m| m.address) } else { Some(pointer) };
             below = self.tree(role, child?)?.max(below);
         }
         Some(below + 1)
@@ -236,8 +294,12 @@ impl Surveyor<'_> {
     fn node_features(&mut self, role: Role, bytes: &[u8], fields: &[Field]) {
         let ghost = fields.iter().any(|f| f.name == fixed_slot::VALUE.name && f.of(bytes) == node::GHOST);
         let empty = fields.iter().any(|f| f.name == queue::COUNT.name && f.of(bytes) == 0);
-        let tree = if role == Role::ObjectMapNode { "object map" } else { "queue" };
-        self.feature(ghost, format!("{tree} with ghosts"));
+        let is_map = role == Role::ObjectMapNode;
+        self.feature(ghost && is_map, "object map with ghosts");
+        self.feature(ghost && is_queue(role), "queue with ghosts");
+        let taken = object::XID.of(self.taken.superblock);
+        let newer = is_map && fields.iter().any(|f| f.name == mapped::XID.name && f.of(bytes) > taken);
+        self.feature(newer, "mapping above the checkpoint's xid");
         self.feature(empty, "queue entry of count 0");
     }
 
@@ -246,8 +308,14 @@ impl Surveyor<'_> {
         self.feature(deleted.peek().is_some(), "object map with deleted mappings");
         let beside = deleted.any(|m| mappings.iter().any(|other| other.id == m.id && !other.deleted));
         self.feature(beside, "deleted mapping beside a live one of its id");
+        let ids = |deleted| mappings.iter().filter(move |m| m.deleted == deleted).map(|m| m.id);
+        let several = ids(false).any(|id| ids(false).filter(|&other| other == id).count() > 1);
+        self.feature(several, "several live mappings of one id");
     }
 }
+
+/// The value of an index node's entry.
+pub const CHILD: Field = Field { name: "child pointer", at: 0, width: node::POINTER };
 
 /// What a leaf of the object map says of a mapping.
 struct Mapping {
@@ -282,21 +350,28 @@ impl NodeFields {
 
     /// What an entry's key and value hold.
     fn contents(&mut self, role: Role, bytes: &[u8], leaf: bool, key: usize, value: Option<usize>) {
-        const CHILD: Field = Field { name: "child pointer", at: 0, width: node::POINTER };
+        let [id, xid] = [mapped::ID, mapped::XID].map(|f| f.shifted(key));
         if !leaf {
             let Some(pointer) = value.map(|v| CHILD.shifted(v)) else { return };
             self.fields.push(pointer);
             self.children.push(pointer.of(bytes));
-        } else if role == Role::ObjectMapNode {
-            let Some([flags, address]) = value.map(|v| [mapped::FLAGS, mapped::ADDRESS].map(|f| f.shifted(v))) else {
-                return;
-            };
-            self.fields.extend([flags, address]);
-            let (id, deleted) = (mapped::ID.shifted(key).of(bytes), flags.of(bytes) & mapped::DELETED != 0);
-            self.mappings.push(Mapping { id, deleted });
-        } else {
-            self.fields.push(queue::ADDRESS.shifted(key));
-            self.fields.extend(value.map(|v| queue::COUNT.shifted(v)));
+        }
+        match role {
+            Role::ObjectMapNode => {
+                if let Some(value) = value.filter(|_| leaf) {
+                    let [flags, address] = [mapped::FLAGS, mapped::ADDRESS].map(|f| f.shifted(value));
+                    self.fields.extend([flags, address]);
+                    let deleted = flags.of(bytes) & mapped::DELETED != 0;
+                    self.mappings.push(Mapping { id: id.of(bytes), deleted });
+                }
+                self.fields.extend([id, xid]);
+            }
+            _ if is_queue(role) && leaf => {
+                self.fields.push(queue::ADDRESS.shifted(key));
+                self.fields.extend(value.map(|v| queue::COUNT.shifted(v)));
+            }
+            // Nothing reads what other leaves hold, or the keys above them.
+            _ => {}
         }
     }
 }

@@ -13,7 +13,7 @@ use crate::answer::Answer;
 use crate::fill::Fill;
 #[cfg(feature = "library")]
 use crate::library;
-use crate::oracle::{self, Ended};
+use crate::oracle::{self, Ended, Opening};
 use crate::text::{from_hex, from_row, to_hex, to_row};
 
 /// What was asked about an image came to this.
@@ -32,20 +32,23 @@ pub enum Reply {
 
 #[derive(Clone, Copy, PartialEq, Eq)]
 pub enum Who {
-    Original,
+    /// The original, with what stands for its opening of volumes.
+    Original(Opening),
     /// The library, with a map handed in.
     Library(Fill),
 }
 
 // The words of a request.
 const ORIGINAL: &str = "original";
+const ORIGINAL_LOADS: &str = "original-loads";
 const LIBRARY: &str = "library";
 const LIBRARY_ZEROLESS: &str = "library-zeroless";
 
 impl Who {
     fn word(self) -> &'static str {
         match self {
-            Who::Original => ORIGINAL,
+            Who::Original(Opening::Succeeds) => ORIGINAL,
+            Who::Original(Opening::LoadsMap) => ORIGINAL_LOADS,
             Who::Library(Fill::Listed) => LIBRARY,
             Who::Library(Fill::Zeroless) => LIBRARY_ZEROLESS,
         }
@@ -190,7 +193,8 @@ pub fn serve() -> io::Result<()> {
 #[cfg_attr(not(feature = "library"), allow(unused_variables))]
 fn answer_to(word: &str, image: Vec<u8>, map_length: usize) -> String {
     match word {
-        ORIGINAL => ask_original(image),
+        ORIGINAL => ask_original(image, Opening::Succeeds),
+        ORIGINAL_LOADS => ask_original(image, Opening::LoadsMap),
         #[cfg(feature = "library")]
         LIBRARY => ask_library(&image, map_length, Fill::Listed),
         #[cfg(feature = "library")]
@@ -199,8 +203,8 @@ fn answer_to(word: &str, image: Vec<u8>, map_length: usize) -> String {
     }
 }
 
-fn ask_original(image: Vec<u8>) -> String {
-    match oracle::run(Box::new(image)) {
+fn ask_original(image: Vec<u8>, opening: Opening) -> String {
+    match oracle::run(Box::new(image), opening) {
         Ended::Report(report, map, lines) => {
             let numbers = Answer::Reported(report).numbers();
             let row = to_row(&numbers[..oracle::NUMBERS]);
@@ -228,7 +232,11 @@ mod tests {
     #[test]
     fn the_lines_come_with_the_answer() {
         let image = Base::build(0).bytes;
-        let Ended::Report(_, _, printed) = oracle::run(Box::new(image.clone())) else { panic!("no report") };
-        assert!(matches!(parse(&ask_original(image)), Reply::Answer(_, _, lines) if lines == printed));
+        let Ended::Report(_, _, printed) = oracle::run(Box::new(image.clone()), Opening::Succeeds) else {
+            panic!("no report")
+        };
+        assert!(
+            matches!(parse(&ask_original(image, Opening::Succeeds)), Reply::Answer(_, _, lines) if lines == printed)
+        );
     }
 }

@@ -5,7 +5,7 @@ use std::io;
 use compare::fields::{checkpoint_map, mapping, object, superblock as s};
 use compare::fletcher::seal;
 
-use super::{Build, Form, BLOCK, MANAGER_ID, QUEUE_ID, XID};
+use super::{volumes, Build, Form, BLOCK, MANAGER_ID, QUEUE_ID, XID};
 
 /// So many mappings fit a block.
 const MAPPINGS: usize = (BLOCK - checkpoint_map::ENTRIES) / checkpoint_map::ENTRY;
@@ -52,6 +52,7 @@ impl Build<'_> {
         ];
         let mut block = vec![0; BLOCK];
         fields.into_iter().for_each(|(field, value)| field.set(&mut block, value));
+        volumes::list(&self.form, &mut block);
         seal(&mut block);
         block
     }

@@ -55,9 +55,9 @@ impl Build<'_> {
     fn queue(&mut self, mut runs: Vec<Run>, first: u64) -> io::Result<()> {
         runs.sort_unstable();
         let entries = runs.into_iter().map(entry).collect();
-        let sizes = Sizes { key: queue::KEY, value: queue::VALUE };
-        let tree = Tree::of(entries, sizes, object::FREE_QUEUE, QUEUE_ID + first);
-        self.tree(&tree, self.places.data + 1 + first)
+        let sizes = Some(Sizes { key: queue::KEY, value: queue::VALUE });
+        let tree = Tree::of(entries, sizes, object::FREE_QUEUE, QUEUE_ID + first..);
+        self.tree(&tree, self.places.data + 1 + first..)
     }
 }
 

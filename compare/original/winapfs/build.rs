@@ -1,4 +1,5 @@
-//! The original's `space_check_container`, without its volumes and without the other commands of its file.
+//! The original's `space_check_container`, without what it claims of the volumes' files and without the other commands of its
+//! file.
 
 #[path = "../assemble.rs"]
 mod assemble;
@@ -15,11 +16,18 @@ fn main() {
         Cut { file: FILE, from: "pub fn dump(", upto: "struct NodeReader<'a>", instead: "" },
         Cut { file: FILE, from: "/// `dev-omap-check`", upto: "/// One owner per block", instead: "" },
         Cut { file: FILE, from: "/// `dev-space-check`", upto: "/// [`space_check`]", instead: "" },
-        // The loop over the volumes.
+        // In the loop over the volumes their opening, which isn't among the sources, and the two claims that need an open one.
+        Cut { file: FILE, from: "let v = c.volume(i)?;", upto: "", instead: "crate::open_volume(c, vsb.omap_oid)?;" },
         Cut {
             file: FILE,
-            from: "    for (i, vsb) in c.volume",
-            upto: "    // Blocks waiting in the main",
+            from: "for (_, _, val) in v.omap_entries()? {",
+            upto: "for p in physical_tree_nodes(&c, vsb.extentref_tree_oid)? {",
+            instead: "",
+        },
+        Cut {
+            file: FILE,
+            from: "        v.scan_all(",
+            upto: "    }\n    // Blocks waiting in the main",
             instead: "",
         },
         // One line more: what the block map is made of, handed out after the last claim.

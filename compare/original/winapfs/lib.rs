@@ -2,7 +2,7 @@
 //!
 //! `dump.rs` comes from the build directory; what it takes from its crate's root is given here instead: an error
 //! that keeps its message, no human-readable size, and `println!` as a macro that keeps the line.
-#![allow(dead_code, unused_imports, clippy::all)]
+#![allow(dead_code, unused_imports, unused_variables, clippy::all)]
 
 use std::cell::{Cell, RefCell};
 use std::collections::HashSet;
@@ -29,14 +29,36 @@ pub struct Cells {
     pub pool_used: HashSet<u64>,
 }
 
+/// What stands for the opening of a volume, which isn't among the original's sources.
+#[derive(Clone, Copy, Debug, PartialEq, Eq)]
+pub enum Opening {
+    /// It always succeeds.
+    Succeeds,
+    /// It loads the volume's object map, and fails where that can't be loaded.
+    LoadsMap,
+}
+
 thread_local! {
     static CAUGHT: RefCell<Caught> = RefCell::default();
+    static OPENING: Cell<Opening> = const { Cell::new(Opening::Succeeds) };
     static CELLS_WANTED: Cell<bool> = const { Cell::new(true) };
 }
 
 /// Whether this thread's runs hand out their cells, as they do at first: a run that is timed shouldn't copy them.
 pub fn want_cells(wanted: bool) {
     CELLS_WANTED.set(wanted);
+}
+
+/// How this thread's runs open volumes from now on; at first the opening succeeds.
+pub fn open_by(opening: Opening) {
+    OPENING.set(opening);
+}
+
+fn open_volume(container: &apfs::Container, object_map: u64) -> apfs::Result<()> {
+    match OPENING.get() {
+        Opening::Succeeds => Ok(()),
+        Opening::LoadsMap => container.load_object_map(object_map),
+    }
 }
 
 /// What was caught since the last call.

@@ -6,7 +6,7 @@ use super::audit::queued;
 use super::blocks::{field, sum, Blocks, Step};
 use super::checkpoint::Taken;
 use super::manager::{Manager, LENGTH_MASK};
-use super::tree::{scan_queue, ObjectMap};
+use super::tree::{mapped_key, scan_queue, ObjectMap};
 use super::Notes;
 use crate::answer::{Overlap, Report};
 use crate::fields::{manager as m, mapped, superblock as s};
@@ -28,11 +28,13 @@ pub struct Mappings {
     pub deleted_last: bool,
     /// A live one has other flags.
     pub other_flags: bool,
+    /// One has a key below that of the one before it.
+    pub out_of_order: bool,
 }
 
 impl Claims<'_> {
     /// `length` blocks from `start`, clipped at the count.
-    fn claim(&mut self, start: u64, length: u64, kind: Kind) -> Step<()> {
+    pub fn claim(&mut self, start: u64, length: u64, kind: Kind) -> Step<()> {
         let end = sum(start, length)?.min(self.cells.len() as u64);
         (start..end).for_each(|block| self.claim_one(block, kind));
         Ok(())
@@ -64,10 +66,11 @@ impl Claims<'_> {
     pub fn object_map(&mut self, blocks: &Blocks, objects: &ObjectMap) -> Step<()> {
         self.claim(objects.address, 1, Kind::ObjectMap)?;
         self.notes.walked = objects.walk(blocks, &mut |address| self.claim(address, 1, Kind::ObjectMapNode))?;
+        let mut last = (0, 0);
         objects.scan(blocks, &mut |entry| {
             let Some(value) = entry.value else { return Ok(()) };
-            field(entry.key, mapped::ID.at, mapped::ID.width)?;
-            field(entry.key, mapped::XID.at, mapped::XID.width)?;
+            let key = mapped_key(&entry)?;
+            self.notes.mappings.out_of_order |= key < std::mem::replace(&mut last, key);
             let address = field(value, mapped::ADDRESS.at, mapped::ADDRESS.width)?;
             let flags = mapped::FLAGS.of(value);
             if flags & mapped::DELETED != 0 {

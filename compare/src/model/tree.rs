@@ -4,7 +4,7 @@ use space_check::Refusal;
 
 use super::blocks::{cut, field, need, Blocks, Step};
 use super::checkpoint::Taken;
-use crate::fields::{description, fixed_slot, node, object, object_map, variable_slot, Field};
+use crate::fields::{description, fixed_slot, mapped, node, object, object_map, variable_slot, Field};
 
 /// A walk may need so many levels.
 pub const WALK_LEVELS: u64 = 33;
@@ -93,6 +93,20 @@ impl<'a> Node<'a> {
         })
     }
 
+    /// How many keys come before the first above the target, in order or not: of two keys the second is looked at first.
+    fn keys_up_to(&self, target: (u64, u64), tree: &Description) -> Step<u64> {
+        let (mut low, mut high) = (0, self.layout.keys);
+        while low < high {
+            let middle = (low + high) / 2;
+            if mapped_key(&self.entry(middle, tree)?)? > target {
+                high = middle;
+            } else {
+                low = middle + 1;
+            }
+        }
+        Ok(low)
+    }
+
     /// Entry `i`: its slot, its key and its value must lie inside the node.
     fn entry(&self, i: u64, tree: &Description) -> Step<Entry<'a>> {
         let fixed = self.is(node::FIXED);
@@ -116,6 +130,12 @@ impl<'a> Node<'a> {
 
 fn pointer(entry: &Entry) -> Step<u64> {
     field(entry.value.ok_or(Refusal::OutsideBytes)?, 0, node::POINTER)
+}
+
+/// The id and the xid that an entry of an object map's tree has as its key.
+pub fn mapped_key(entry: &Entry) -> Step<(u64, u64)> {
+    let part = |f: Field| field(entry.key, f.at, f.width);
+    Ok((part(mapped::ID)?, part(mapped::XID)?))
 }
 
 /// Reads the node that a child pointer names.
@@ -177,7 +197,7 @@ impl<'a> ObjectMap<'a> {
         let root = Node::read(blocks, root_address)?;
         let tree = root.describe()?;
         let sizes = (tree.key_size, tree.value_size);
-        let expected = (crate::fields::mapped::SIZE, crate::fields::mapped::SIZE);
+        let expected = (mapped::SIZE, mapped::SIZE);
         need(tree.flags & description::PHYSICAL != 0 && sizes == expected, Refusal::BadNode)?;
         Ok(ObjectMap { address, root_address, root, tree })
     }
@@ -188,10 +208,39 @@ impl<'a> ObjectMap<'a> {
 
     /// The addresses of all nodes, parent first and last child first.
     pub fn walk(&self, blocks: &Blocks<'a>, visit: &mut dyn FnMut(u64) -> Step<()>) -> Step<Walked> {
-        let mut walk = Walk { blocks, tree: &self.tree, walked: Walked::default(), visit };
-        walk.from(self.root_address, 1)?;
-        Ok(walk.walked)
+        walk(blocks, &self.tree, self.root_address, visit)
     }
+
+    /// The leaf entry that a search for a key comes to: the last one not above it, where all nodes are in order. There is
+    /// none where some node on the way has no key up to it.
+    pub fn reach(&self, blocks: &Blocks<'a>, key: (u64, u64)) -> Step<Option<Entry<'a>>> {
+        let mut node = self.root;
+        loop {
+            let keys = node.keys_up_to(key, &self.tree)?;
+            if keys == 0 {
+                return Ok(None);
+            }
+            let entry = node.entry(keys - 1, &self.tree)?;
+            if node.is(node::LEAF) {
+                return Ok(Some(entry));
+            }
+            let below = Node::read(blocks, pointer(&entry)?)?;
+            need(below.layout.level + 1 == node.layout.level, Refusal::WrongLevel)?;
+            node = below;
+        }
+    }
+}
+
+/// The nodes of a tree that nothing has read yet, by the description of its own root, which may say anything of flags and sizes.
+pub fn walk_from(blocks: &Blocks, root: u64, visit: &mut dyn FnMut(u64) -> Step<()>) -> Step<Walked> {
+    let tree = Node::read(blocks, root)?.describe()?;
+    walk(blocks, &tree, root, visit)
+}
+
+fn walk(blocks: &Blocks, tree: &Description, root: u64, visit: &mut dyn FnMut(u64) -> Step<()>) -> Step<Walked> {
+    let mut walk = Walk { blocks, tree, walked: Walked::default(), visit };
+    walk.from(root, 1)?;
+    Ok(walk.walked)
 }
 
 /// How far a walk went: nodes with repeats, and levels.
@@ -249,6 +298,33 @@ mod tests {
         let blocks = Blocks { image: &image, size: 4096, count: levels.len() as u64 + 1 };
         let root = Node::read(&blocks, 1)?;
         scan(&root, &root.describe()?, &|address| Node::read(&blocks, address), &mut |_| Ok(()))
+    }
+
+    /// What a search for an id at xid 9 reaches in a leaf with these ids, each at xid 9, in this order.
+    fn reached(ids: &[u64], id: u64) -> Option<u64> {
+        let mut image = vec![0; 2 * 4096];
+        let entries: Vec<_> = ids.iter().map(|&id| (bytes_of(&[id, 9]), None)).collect();
+        let root = Some(Sizes { key: 16, value: 16 });
+        let node = Built { id: 1, xid: 1, subtype: 0, level: 0, leaf: true, fixed: true, root, entries: &entries };
+        node.write(&mut image[4096..], &mut Rng::new(1));
+        let blocks = Blocks { image: &image, size: 4096, count: 2 };
+        let root = Node::read(&blocks, 1).expect("a node");
+        let tree = root.describe().expect("a root");
+        let objects = ObjectMap { address: 0, root_address: 1, root, tree };
+        let entry = objects.reach(&blocks, (id, 9)).expect("whole keys")?;
+        Some(mapped::ID.of(entry.key))
+    }
+
+    #[test]
+    fn a_search_reaches_the_last_key_up_to_its_own() {
+        assert_eq!(
+            [1, 2, 3, 4, 5, 6].map(|id| reached(&[2, 4, 5], id)),
+            [None, Some(2), Some(2), Some(4), Some(5), Some(5)]
+        );
+        assert_eq!(reached(&[], 7), None);
+        // Of two keys the second is looked at first, of three the second, then the third.
+        assert_eq!([1, 2, 4].map(|id| reached(&[4, 2], id)), [None, Some(2), Some(2)]);
+        assert_eq!([1, 2, 5, 9].map(|id| reached(&[2, 9, 1], id)), [None, Some(2), Some(2), Some(1)]);
     }
 
     #[test]

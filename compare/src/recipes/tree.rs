@@ -1,4 +1,4 @@
-//! Damages of trees: the object map's, and the queues'.
+//! Damages of trees: the object map's, the queues' and the volumes'.
 
 use crate::draft::Draft;
 use crate::fields::{description, fixed_slot, mapped, node, object, object_map, queue, variable_slot, Field};
@@ -6,17 +6,13 @@ use crate::model::{Layout, WALK_LEVELS};
 use crate::nodes::{bytes_of, Node, Sizes};
 use crate::survey::{Object, Role};
 
-/// The roles of nodes.
-const NODES: [Role; 3] = [Role::ObjectMapNode, Role::PoolQueueNode, Role::MainQueueNode];
-
-/// The object map's root as an index node over the given children.
-fn index_root(d: &mut Draft, level: u64, children: &[u64]) -> Option<()> {
-    let address = d.get(d.first(Role::ObjectMap)?, object_map::ROOT);
-    write_node(d, address, level, children, true)
+/// The root of the container's object map.
+fn map_root(d: &Draft) -> Option<u64> {
+    Some(d.get(d.first(Role::ObjectMap)?, object_map::ROOT))
 }
 
-/// A node of the object map's tree: an index node where it has children, else an empty leaf.
-fn write_node(d: &mut Draft, address: u64, level: u64, children: &[u64], root: bool) -> Option<()> {
+/// A node of a physical tree: an index node where it has children, else an empty leaf.
+pub fn write_node(d: &mut Draft, address: u64, level: u64, children: &[u64], root: bool) -> Option<()> {
     let entries: Vec<_> = children.iter().map(|&c| (vec![0; mapped::SIZE], Some(bytes_of(&[c])))).collect();
     let node = Node {
         id: address,
@@ -34,9 +30,14 @@ fn write_node(d: &mut Draft, address: u64, level: u64, children: &[u64], root: b
 }
 
 pub fn circle(d: &mut Draft) -> Option<String> {
-    let root = d.get(d.first(Role::ObjectMap)?, object_map::ROOT);
+    let root = map_root(d)?;
+    circle_at(d, root)
+}
+
+/// A root that names itself.
+pub fn circle_at(d: &mut Draft, root: u64) -> Option<String> {
     let children = vec![root; d.rng.between(1, 2) as usize];
-    index_root(d, 1, &children)?;
+    write_node(d, root, 1, &children, true)?;
     Some(format!("root {root} names itself"))
 }
 
@@ -46,8 +47,13 @@ pub fn repeats(d: &mut Draft) -> Option<String> {
     repeats_of(d, more)
 }
 
-/// A walk of `more` nodes than there are blocks: the root names one leaf again and again.
 pub fn repeats_of(d: &mut Draft, more: u64) -> Option<String> {
+    let root = map_root(d)?;
+    repeats_at(d, root, more)
+}
+
+/// A walk of `more` nodes than there are blocks: the root names one leaf again and again.
+pub fn repeats_at(d: &mut Draft, root: u64, more: u64) -> Option<String> {
     let leaf = d.grow(1)?;
     let count = leaf + 1;
     let nodes = count + more;
@@ -56,30 +62,38 @@ pub fn repeats_of(d: &mut Draft, more: u64) -> Option<String> {
         return None;
     }
     write_node(d, leaf, 0, &[], false)?;
-    index_root(d, 1, &vec![leaf; nodes as usize - 1])?;
+    write_node(d, root, 1, &vec![leaf; nodes as usize - 1], true)?;
     Some(format!("{nodes} nodes in {count} blocks"))
 }
 
-/// A tree of one node on each level: few, or as many as a walk may need, or one more or less.
+/// The levels of a chain: few, or as many as a walk may need, or one more or less.
+pub const CHAINS: [u64; 4] = [4, WALK_LEVELS - 1, WALK_LEVELS, WALK_LEVELS + 1];
+
 pub fn chain(d: &mut Draft) -> Option<String> {
-    let levels = *d.rng.pick(&[4, WALK_LEVELS - 1, WALK_LEVELS, WALK_LEVELS + 1]);
+    let levels = *d.rng.pick(&CHAINS);
     chain_of(d, levels)
 }
 
 pub fn chain_of(d: &mut Draft, levels: u64) -> Option<String> {
+    let root = map_root(d)?;
+    chain_at(d, root, levels)
+}
+
+/// A tree of one node on each level.
+pub fn chain_at(d: &mut Draft, root: u64, levels: u64) -> Option<String> {
     let first = d.grow(levels - 1)?;
     let below: Vec<u64> = (first..first + levels - 1).collect();
     for (i, &address) in below.iter().enumerate() {
         let child = &below[i + 1..below.len().min(i + 2)];
         write_node(d, address, (below.len() - 1 - i) as u64, child, false)?;
     }
-    index_root(d, (levels - 1).min(node::HIGHEST_LEVEL), &below[..1])?;
+    write_node(d, root, (levels - 1).min(node::HIGHEST_LEVEL), &below[..1], true)?;
     Some(format!("{levels} levels"))
 }
 
 /// A node of some tree that has what `fit` asks for.
-fn some_node<'a>(d: &mut Draft<'a>, fit: impl Fn(&Layout) -> bool) -> Option<(&'a Object, Layout)> {
-    let mut roles = NODES;
+pub fn some_node<'a>(d: &mut Draft<'a>, fit: impl Fn(&Layout) -> bool) -> Option<(&'a Object, Layout)> {
+    let mut roles = Role::NODES;
     d.rng.shuffle(&mut roles);
     let nodes = roles.into_iter().flat_map(|role| d.survey.with_role(role));
     let layouts = nodes.filter_map(|o| Some((o, Layout::of(d.block(o.blocks[0])?))));

@@ -180,3 +180,10 @@ unfolding _>>=_
 bind-assoc (done a) q k = refl
 bind-assoc (refuse r) q k = refl
 bind-assoc (read n g) q k = λ i. read n (λ b. bind-assoc (g b) q k i)
+
+-- one pass, and then nothing
+pub bind-done : {A : Type 0} (p : Reads A) → p >>= done ≡ p
+unfolding _>>=_
+bind-done (done a) = refl
+bind-done (refuse r) = refl
+bind-done (read n g) = λ i. read n (λ b. bind-done (g b) i)

@@ -32,9 +32,11 @@ pub enum Refusal {
     BadBitmap,
     Overflow,
     TooManyNodes,
+    VolumeUnmapped,
+    NotVolume,
 }
 
-// An object's id and a block's address never interchange: the checkpoint map alone turns one into the other.
+// An object's id and a block's address never interchange: the checkpoint map and, for volumes, the object map turn one into the other.
 pub struct ObjectId(pub u64);
 
 pub struct Address(pub u64);
@@ -72,6 +74,8 @@ pub fn number_of(why: Refusal) -> u8
         Refusal::BadBitmap => 20,
         Refusal::Overflow => 21,
         Refusal::TooManyNodes => 22,
+        Refusal::VolumeUnmapped => 23,
+        Refusal::NotVolume => 24,
     }
 }
 

@@ -2,8 +2,8 @@
 use blocks::Address;
 use blocks::ObjectId;
 ghost use mathlib.Core.Path.{_≡_};
-ghost use Prim.Native.Nat.{_<_, _^_};
-ghost use Rattle.checkpoint.specs.Superblock.{magicOf, blockSize as blockSizeOf, blockCount as blockCountOf, incompatible as incompatibleOf, descriptorBlocks, dataBlocks, descriptorBase, dataBase, descriptorIndex, descriptorLength, managerId, objectMapAddress, withoutTopBit};
+ghost use Prim.Native.Nat.{_<_, _≤_, _^_};
+ghost use Rattle.checkpoint.specs.Superblock.{magicOf, blockSize as blockSizeOf, blockCount as blockCountOf, incompatible as incompatibleOf, descriptorBlocks, dataBlocks, descriptorBase, dataBase, descriptorIndex, descriptorLength, managerId, objectMapAddress, mostVolumes, volumePlaces, volumeId, withoutTopBit};
 
 // The top bit of an area's length, which is no part of it, and the bits that are.
 pub(crate) const TOP_BIT: u64 = 0x80000000;
@@ -33,6 +33,15 @@ const DESCRIPTOR_LENGTH: usize = 140;
 const MANAGER_ID: usize = 152;
 
 const OBJECT_MAP: usize = 160;
+
+const VOLUME_COUNT: usize = 180;
+
+const VOLUME_IDS: usize = 184;
+
+const ID_SIZE: usize = 8;
+
+// How many volumes a container may have.
+const MOST_VOLUMES: u64 = 100;
 
 // The length of an area, whose top bit says something else.
 pub fn without_top_bit(length: u64) -> u64
@@ -111,4 +120,19 @@ pub fn object_map_address(sb: &[u8]) -> Address
     ensures { λ r. ⌜ r ≡ objectMapAddress (now (sb .entry)) ⌝ }
 {
     Address(fields::u64_of(sb, OBJECT_MAP))
+}
+
+// How many places there are for the ids of volumes; a place may be empty.
+pub fn volume_places(sb: &[u8]) -> u64
+    ensures { λ r. ⌜ (r ≡ volumePlaces (now (sb .entry))) × (r ≤ mostVolumes) ⌝ }
+{
+    fields::least(fields::u32_of(sb, VOLUME_COUNT), MOST_VOLUMES)
+}
+
+// The id in one of these places.
+pub fn volume_id(sb: &[u8], place: u64) -> ObjectId
+    requires { ⌜ place < mostVolumes ⌝ }
+    ensures { λ r. ⌜ r ≡ volumeId (now (sb .entry)) place ⌝ }
+{
+    ObjectId(fields::u64_of(sb, VOLUME_IDS + place as usize * ID_SIZE))
 }

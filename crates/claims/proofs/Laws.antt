@@ -25,9 +25,10 @@ use Rattle.report.specs.declared.Cursor.{Cursor}
 use Rattle.report.specs.declared.OverlapLog.{OverlapLog}
 use Rattle.report.specs.declared.Ending.{Ending}
 use Rattle.report.specs.declared.Ending.the-variants.{Done, Refused}
-use Rattle.report.proofs.StepLaws.{stepped-done, Left, unlogged-first, unlogged-more}
+use Rattle.report.proofs.StepLaws.{stepped-done, stays-done, stays-refused, Left, unlogged-first, unlogged-more}
 use Rattle.totals.specs.Totals.{unowned}
 use Rattle.claims.specs.Claims.{volumeSuperblock, claimBlock, claimFrom, claim, mappedAddress, claimMapped, claimMapping}
+use Rattle.claims.specs.declared.Claimed.{Claimed}
 use Rattle.claims.specs.contracts.Answers.{owned, ClaimedAs, blocksLeft}
 
 -- a step's value put into another
@@ -129,3 +130,15 @@ module _ (c : Container) (s : Marked OverlapLog) (b : List ℕ) (e : EntryPlace)
 
         pub mapping-live : isDeleted (partIn b p) ≡ false → run f (claimMapping c s (entryIn b e)) ≡ run f (claim c volumeSuperblock a 1 s)
         mapping-live t = ap (run f) (by-address at) ∙ then-given f _ _ a q ∙ rw t refl
+
+-- a claim's step as the code answers it
+pub claimed-is : {f : ℕ → List ℕ} {count : ℕ} {before after : List ℕ} {p : Reads (Marked OverlapLog)} (r : Claimed) (ending : Ending) (log : OverlapLog) → r ≡ record { ending = ending; log = log } → Stepped f count ending before after log p → Stepped f count (r .ending) before after (r .log) p
+claimed-is r ending log q h = rw q h
+
+-- one that left the map
+module _ {f : ℕ → List ℕ} {p : Reads (Marked OverlapLog)} (count : ℕ) (map : List ℕ) (log : OverlapLog) (r : Claimed) where
+  pub claimed-refused : (why : Refusal) → r ≡ record { ending = Refused why; log = log } → run f p ≡ refused why → Stepped f count (r .ending) map map (r .log) p
+  claimed-refused why q e = claimed-is r _ _ q (stays-refused count map log why e)
+
+  pub claimed-done : r ≡ record { ending = Done; log = log } → run f p ≡ given (owned map log) → Stepped f count (r .ending) map map (r .log) p
+  claimed-done q e = claimed-is r _ _ q (stays-done count map log e)

@@ -6,6 +6,9 @@ use nodes::EntryPlace;
 use nodes::Part;
 use nodes::Value;
 use nodes::entries::field_in;
+use nodes::object_map::MAPPING_ADDRESS;
+use nodes::object_map::MAPPING_ID;
+use nodes::object_map::MAPPING_XID;
 use nodes::object_map::is_deleted;
 use queue::RunAnswer;
 use report::Cursor;
@@ -48,12 +51,9 @@ pub(crate) const VOLUME_SUPERBLOCK: u8 = 8;
 
 pub(crate) const FREE_QUEUE: u8 = 9;
 
-// Fields of a mapping: the id and the transaction in its key, the address in its value.
-const ID: usize = 0;
+pub const EXTENT_NODE: u8 = 10;
 
-const XID: usize = 8;
-
-const ADDRESS: usize = 8;
+pub const SNAPSHOT_NODE: u8 = 11;
 
 // How a claim ended, and the overlaps counted so far.
 pub struct Claimed {
@@ -61,10 +61,10 @@ pub struct Claimed {
     pub log: OverlapLog,
 }
 
-// Where a claim came to along its blocks, and the overlaps counted so far.
-struct ClaimStep {
-    step: Step,
-    log: OverlapLog,
+// Where a claim came to along its blocks, or claims along what they are for, and the overlaps counted so far.
+pub struct ClaimStep {
+    pub step: Step,
+    pub log: OverlapLog,
 }
 
 // Whether a claim of a kind takes a block: one that nothing claimed, or that its own kind holds.
@@ -200,15 +200,15 @@ pub fn claim_node(
 pub(crate) fn mapped_address(node: &[u8], key: Part, value: Part) -> NumberAnswer
     ensures { λ r. ⌜ Always (numberAs r) (mappedAddress (partIn (bytes node) key) (partIn (bytes node) value)) ⌝ }
 {
-    let id = field_in(node, key, ID);
+    let id = field_in(node, key, MAPPING_ID);
     if let NumberAnswer::Refused(r) = id {
         return NumberAnswer::Refused(r);
     }
-    let xid = field_in(node, key, XID);
+    let xid = field_in(node, key, MAPPING_XID);
     if let NumberAnswer::Refused(r) = xid {
         return NumberAnswer::Refused(r);
     }
-    field_in(node, value, ADDRESS)
+    field_in(node, value, MAPPING_ADDRESS)
 }
 
 // An entry of the object map: a ghost maps nothing, and a deleted mapping holds no block.

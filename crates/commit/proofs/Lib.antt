@@ -9,3 +9,4 @@ pub mod Example
 pub mod ExampleCuts
 pub mod ExampleNeeds
 pub mod ExampleAddressed
+pub mod ExampleVolume

@@ -27,7 +27,8 @@ pub record Takes (f : ℕ → List ℕ) (g : Geometry) (t : Taken) : Type 0 wher
   pub highest : (j : ℕ) → j < g .ring → j ≢ t .at → sound (f (g .base + j)) ≡ true → xidOf (f (g .base + j)) < xidOf (t .sb)
 
 -- the blocks that a pass reads, each as often as it is read; "a refused pass, only those it read up to its refusal". Document 02:
--- "Address blocks join the blocks a cut writer may not touch", since the pass reads them
+-- "Address blocks join the blocks a cut writer may not touch"; "Every block these readings visit joins the blocks a cut writer may
+-- not touch", those of the volumes: the pass reads them
 unfoldable pub blocksRead : (ℕ → List ℕ) → Geometry → List ℕ → List ℕ
 blocksRead f g map = 0 ∷ visits f (pass g map)
 

@@ -1,7 +1,7 @@
 -- An answer whose every figure is 100 more than its place: written out, they count up, so that each stands where its name says.
-use mathlib.Core.List.{List, [], _∷_, flatMap, flatten}
+use mathlib.Core.List.{List, [], _∷_, _++_, flatMap, flatten}
 use mathlib.Core.Path.{_≡_, refl}
-use Prim.Native.Nat.{ℕ, zero, suc, _+_}
+use Prim.Native.Nat.{ℕ, zero, suc, _+_, _-_}
 use lib.ListN.{set}
 use Rattle.blocks.specs.declared.Refusal.the-variants.{ShortMap}
 use Rattle.report.specs.Report.{logged, kinds, endingNumber}
@@ -11,8 +11,8 @@ use Rattle.report.specs.declared.Lost.{Lost}
 use Rattle.report.specs.declared.Overlap.{Overlap}
 use Rattle.report.specs.declared.Problem.{Problem}
 use Rattle.interface.specs.Places.{refusalAt, xidAt, poolUsedAt, poolUnusedAt, problemsAt, problemAt, freeAt, wrongChunksAt, deviceFreeAt}
-use Rattle.interface.specs.Places.{overlapsAt, overlapAt, lostAt, firstLostAt, leakedAt, verdictAt, answerFigures}
-use Rattle.interface.specs.Figures.{figuresOf, baseFigures, auditFigures, claimFigures, laterFigures}
+use Rattle.interface.specs.Places.{overlapsAt, overlapAt, lostAt, firstLostAt, leakedAt, verdictAt, laterLostAt, laterFirstLostAt, answerFigures}
+use Rattle.interface.specs.Figures.{baseKinds, figuresOf, baseFigures, auditFigures, claimFigures, laterFigures}
 
 -- k of each, of which the first has its numbers from a place on
 abbrev problems : ℕ → ℕ → List Problem
@@ -41,7 +41,7 @@ sample =
             «wrong_chunks» = 100 + wrongChunksAt;
             «device_free» = 100 + deviceFreeAt;
             overlaps = record { total = 100 + overlapsAt; first = overlaps logged overlapAt };
-            lost = lost kinds lostAt firstLostAt;
+            lost = lost baseKinds lostAt firstLostAt ++ lost (kinds - baseKinds) laterLostAt laterFirstLostAt;
             leaked = 100 + leakedAt;
             verdict = 100 + verdictAt;
           };

@@ -56,7 +56,7 @@ claimFigures r =
 unfoldable pub baseFigures : Answer → List ℕ
 baseFigures a = auditFigures a ++ claimFigures (a .report)
 
--- kinds beyond the base's, of which there are none yet, come last: who has an array of the base's numbers goes on as before
+-- kinds beyond the base's come last: who has an array of the base's numbers goes on as before
 unfoldable pub laterFigures : Report → List ℕ
 laterFigures r = lostFigures (slice baseKinds kinds (r .lost))
 

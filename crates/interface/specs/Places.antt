@@ -47,5 +47,11 @@ leakedAt = 77  -- blocks marked but unowned
 abbrev pub verdictAt : ℕ
 verdictAt = 78  -- 1 consistent, 2 inconsistent
 
+abbrev pub laterLostAt : ℕ
+laterLostAt = 79  -- blocks owned but unmarked, of kinds 10 and 11
+
+abbrev pub laterFirstLostAt : ℕ
+laterFirstLostAt = 81  -- the first such of each
+
 abbrev pub answerFigures : ℕ
-answerFigures = 79  -- how many numbers there are
+answerFigures = 83  -- how many numbers there are

@@ -3,13 +3,14 @@
 use mathlib.Core.Path.{_≡_, refl}
 use mathlib.Core.Bool.{Bool, true, false, _&&_}
 use mathlib.Core.List.{List, [], _∷_, _++_, map, flatMap, flatten}
-use Prim.Native.Nat.{ℕ, zero, suc, _+_, _^_, _-_}
+use Prim.Native.Nat.{ℕ, zero, suc, _+_, _*_, _^_, _-_}
 use lib.Dec.{eqb, ltb}
 use lib.ListN.{replicate}
 use Rattle.fields.specs.Choice.{pick}
-use Rattle.blocks.specs.declared.Refusal.the-variants.{ShortImage, TooManyNodes}
+use Rattle.blocks.specs.declared.Refusal.the-variants.{ShortImage, NotVolume}
 use Rattle.report.specs.Report.{noProblems, noOverlaps, kinds, zeroReport, refusal, reported}
 use Rattle.report.specs.declared.Answer.{Answer}
+use Rattle.report.specs.declared.Lost.{Lost}
 use Rattle.report.specs.declared.Overlap.{Overlap}
 use Rattle.report.specs.declared.Report.{Report}
 use Rattle.totals.specs.Totals.{inconsistent, lostIn}
@@ -44,7 +45,7 @@ damaged =
             first =
                 overlap 0 1 2 ∷ overlap 14 3 5 ∷ overlap 15 3 5 ∷ overlap 13 5 6 ∷ overlap 12 5 7 ∷ overlap 9 5 8 ∷ replicate 4 (overlap 0 0 0);
           };
-      lost = replicate 4 noLost ++ (record { count = 1; first = 8 } ∷ replicate 4 noLost);
+      lost = replicate 4 noLost ++ (record { count = 1; first = 8 } ∷ replicate 6 noLost);
       leaked = 0;
       verdict = inconsistent;
     }
@@ -68,6 +69,26 @@ every-line : listingOf (reported damaged)
 unfolding computed damaged
 every-line = refl
 
+-- every kind with lost blocks, as many as its number says
+lostFor : ℕ → ℕ → List Lost
+lostFor zero kind = []
+lostFor (suc left) kind = record { count = kind; first = 16 * kind } ∷ lostFor left (kind + 1)
+
+lost-lines : flatten (flatMap (lostKindLineOf (lostFor kinds 1)) placesByName)
+    ≡ ascii "  checkpoint data area: 3 (first at 0x30)\n"
+    ++ ascii "  checkpoint descriptor area: 2 (first at 0x20)\n"
+    ++ ascii "  container superblock: 1 (first at 0x10)\n"
+    ++ ascii "  extent-reference tree node: 10 (first at 0xa0)\n"
+    ++ ascii "  free queue (pending release): 9 (first at 0x90)\n"
+    ++ ascii "  internal pool: 4 (first at 0x40)\n"
+    ++ ascii "  internal-pool bitmap ring: 5 (first at 0x50)\n"
+    ++ ascii "  object map: 6 (first at 0x60)\n"
+    ++ ascii "  object map node: 7 (first at 0x70)\n"
+    ++ ascii "  snapshot tree node: 11 (first at 0xb0)\n"
+    ++ ascii "  volume superblock: 8 (first at 0x80)\n"
+unfolding computed lostFor
+lost-lines = refl
+
 -- the last of the Rust's problems, document 02's line for the first that it adds, and one for a kind that there may be later
 problem-lines : flatten (problemLine 5 0x1f ++ problemLine 6 0x1f ++ problemLine 12 0)
     ≡ ascii "  internal-pool block 0x1f queued but still in use\n  problem 6 at 0x1f\n  problem 12 at 0x0\n"
@@ -79,7 +100,7 @@ first-refusal : listingOf (refusal ShortImage) ≡ ascii "refused 1\n"
 unfolding computed
 first-refusal = refl
 
-last-refusal : listingOf (refusal TooManyNodes) ≡ ascii "refused 22\n"
+last-refusal : listingOf (refusal NotVolume) ≡ ascii "refused 24\n"
 unfolding computed
 last-refusal = refl
 

@@ -23,6 +23,8 @@ kindNames =
     ∷ ascii "object map node"
     ∷ ascii "volume superblock"
     ∷ ascii "free queue (pending release)"
+    ∷ ascii "extent-reference tree node"
+    ∷ ascii "snapshot tree node"
     ∷ []
 
 unfoldable pub kindName : ℕ → List ℕ

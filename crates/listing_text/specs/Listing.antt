@@ -28,7 +28,7 @@ overlapLineOf o = overlapLine (o .block) (o .owner) (o .claimant)
 
 -- "lost lines are the Rust's": in the order of the kinds' names, by their places in a report
 unfoldable pub placesByName : List ℕ
-placesByName = 2 ∷ 1 ∷ 0 ∷ 8 ∷ 3 ∷ 4 ∷ 5 ∷ 6 ∷ 7 ∷ []
+placesByName = 2 ∷ 1 ∷ 0 ∷ 9 ∷ 8 ∷ 3 ∷ 4 ∷ 5 ∷ 6 ∷ 10 ∷ 7 ∷ []
 
 -- the blocks that the kind at a place lost
 abbrev pub lostAt : List Lost → ℕ → Lost

@@ -29,6 +29,8 @@ object map
 object map node
 volume superblock
 free queue (pending release)
+extent-reference tree node
+snapshot tree node
 ";
     put_text(out, at, row(names, kind))
 }

@@ -36,7 +36,7 @@ pub const MOST_BYTES: usize = (ALWAYS + 2 * LOGGED + KINDS) * LINE_BYTES;
 // The number of the first kind of claimants.
 const FIRST_KIND: u64 = 1;
 // Places of the kinds in a report, in the order of their names.
-const PLACES_BY_NAME: [usize; KINDS] = [2, 1, 0, 8, 3, 4, 5, 6, 7];
+const PLACES_BY_NAME: [usize; KINDS] = [2, 1, 0, 9, 8, 3, 4, 5, 6, 10, 7];
 
 // How many of those met a log names.
 fn named(total: u64) -> usize

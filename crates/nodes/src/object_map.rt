@@ -24,7 +24,7 @@ const OBJECT_MAP: u64 = 11;
 // Offsets in an object map.
 const TREE_TYPE: usize = 40;
 
-const TREE_ROOT: usize = 48;
+pub const TREE_ROOT: usize = 48;
 
 // A type's top two bits tell how its objects are stored.
 const STORAGE: u64 = 30;
@@ -36,9 +36,16 @@ const PHYSICAL_TREE: u64 = 4;
 
 const PAIR_SIZE: u64 = 16;
 
-// In a mapping's value: where its flags stand, and the bit of a deleted one.
+// Fields of a mapping: the id and the transaction in its key, the flags and the address in its value.
+pub const MAPPING_ID: usize = 0;
+
+pub const MAPPING_XID: usize = 8;
+
 const MAPPING_FLAGS: usize = 0;
 
+pub const MAPPING_ADDRESS: usize = 8;
+
+// The flag of a deleted one.
 const DELETED: u64 = 0;
 
 // The address of the tree's root.

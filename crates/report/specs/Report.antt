@@ -45,7 +45,7 @@ addOverlap o l = do
 
 -- how many kinds of claimants there are
 abbrev pub kinds : ℕ
-kinds = 9
+kinds = 11
 
 -- "an all-zero report"
 unfoldable pub zeroReport : Report

@@ -8,7 +8,7 @@ pub mod steps;
 // How many problems and overlaps a report names.
 pub const LOGGED: usize = 10;
 // How many kinds of claimants there are.
-pub const KINDS: usize = 9;
+pub const KINDS: usize = 11;
 
 // Something wrong with a block of the internal pool.
 pub struct Problem {

@@ -1,5 +1,5 @@
 -- The container of document 01's listing, through the whole check: the report that the listing prints, and the block map; and the
--- same with an address block.
+-- same with an address block, and with a volume.
 use mathlib.Core.Path.{_≡_, refl}
 use mathlib.Core.List.{List, [], _∷_, _++_}
 use Prim.Native.Nat.{ℕ}
@@ -10,7 +10,7 @@ use Rattle.totals.specs.Totals.{consistent}
 use Rattle.report.specs.Report.{noProblems, noOverlaps, kinds, refusal, reported}
 use Rattle.report.specs.declared.Report.{Report}
 use Rattle.samples.proofs.Computing.{computed}
-use Rattle.samples.proofs.Container.{sealedWith, mapChecksum, managerChecksum, listing, addressed}
+use Rattle.samples.proofs.Container.{sealedWith, mapChecksum, managerChecksum, listing, addressed, withVolume}
 
 -- the report of a consistent container, by its pool blocks in use and its free blocks
 abbrev consistentWith : ℕ → ℕ → Report
@@ -59,3 +59,11 @@ addressedMap = 17 ∷ 18 ∷ 18 ∷ 18 ∷ 18 ∷ 19 ∷ 19 ∷ 21 ∷ 52 ∷ 52
 pub addressed-checked : check addressed (replicate 17 255) ≡ record { answer = reported (consistentWith 3 3); map = addressedMap }
 unfolding computed addressed
 addressed-checked = refl
+
+-- with a volume: its superblock is claim 8's, then its object map and the map's node, and its extent-reference tree's node (10)
+abbrev pub volumeMap : List ℕ
+volumeMap = 17 ∷ 18 ∷ 18 ∷ 18 ∷ 18 ∷ 19 ∷ 19 ∷ 21 ∷ 52 ∷ 52 ∷ 22 ∷ 23 ∷ 24 ∷ 22 ∷ 23 ∷ 26 ∷ 255 ∷ []
+
+pub volume-checked : check withVolume (replicate 17 255) ≡ record { answer = reported (consistentWith 2 0); map = volumeMap }
+unfolding computed withVolume
+volume-checked = refl

@@ -4,7 +4,7 @@ use mathlib.Core.Bool.{Bool, true, false, _||_}
 use mathlib.Core.List.{List, [], _∷_}
 use mathlib.Core.Option.{Option, some, none}
 use Prim.Native.Nat.{ℕ, zero, suc, _+_, _<_}
-use lib.Dec.{leb, eqb}
+use lib.Dec.{leb, ltb, eqb}
 use lib.ListN.{getD}
 use borrow.Author.Tests.{leb-false}
 use Rattle.fields.specs.Choice.{choose}
@@ -43,7 +43,9 @@ use Rattle.totals.specs.Totals.{unowned}
 use Rattle.audit.specs.Audit.{unless, markFrom, tally, auditBitmap, auditChunk, auditChunks, auditInfo, auditQueuedFrom, auditQueued, auditMark, auditUse, markSet, markBit, tallyBitmap, readBitmap, enterInfo, readInfo, auditEach, enterAddress, readAddress, auditAddress, auditListed, auditDevice, auditQueuedBlock}
 use Rattle.audit.specs.declared.Audit.{Audit}
 use Rattle.claims.specs.Claims.{claimBlock, claimFrom, claim, claimNode, claimMapped, claimMapping, claimQueued, mappedAddress, claimMappings}
-use Rattle.space_check.specs.Check.{audit, claimAreas, claimObjects, claims, body, lastUntouched, Parts, poolPart, managerPart, loadParts, claimTrees, claimAndReport, auditAndClaim}
+use Rattle.volumes.specs.Lookup.{above, aboveAt, searchFrom, search, childAt, lookupFrom, lookupLe}
+use Rattle.volumes.specs.Volumes.{liveAddress, mappedBy, volumeAddress, readVolume, addressFor, volumeFor, volumeAt, volumesFrom, snapshotsAddress, claimTree, readMap, claimSnapshots, claimVolume, claimEach, claimVolumes}
+use Rattle.space_check.specs.Check.{audit, claimAreas, claimMappingsAndVolumes, claimObjects, claims, body, lastUntouched, Parts, poolPart, managerPart, loadParts, claimTrees, claimAndReport, auditAndClaim}
 
 abbrev pub IsLate : Refusal → Type 0
 IsLate r = leb (numberOf r) lastUntouched ≡ false
@@ -493,6 +495,101 @@ late-claimQueued : (c : Container) (s : Marked OverlapLog) (e : Entry) → Late 
 unfolding claimQueued
 late-claimQueued c s e = late-bind _ _ (late-runOf e) (λ r. late-claim c _ _ _ s)
 
+-- the volumes
+
+late-above : (id : ObjectId) (xid : ℕ) (key : List ℕ) → Late (above id xid key)
+unfolding above
+late-above id xid key = late-bind _ _ (late-field _ _ _) (λ i. late-bind _ _ (late-field _ _ _) (λ x. late-done _))
+
+late-aboveAt : (d : Description) (id : ObjectId) (xid : ℕ) (b : List ℕ) (i : ℕ) → Late (aboveAt d id xid b i)
+unfolding aboveAt
+late-aboveAt d id xid b i = late-bind _ _ (late-entry d b i) (λ e. late-above id xid _)
+
+late-searchFrom : (d : Description) (id : ObjectId) (xid : ℕ) (b : List ℕ) (left lo hi : ℕ) → Late (searchFrom d id xid b left lo hi)
+unfolding searchFrom
+late-searchFrom d id xid b zero lo hi = late-done _
+late-searchFrom d id xid b (suc left) lo hi =
+    late-choose (ltb lo hi) _ _ (late-bind _ _ (late-aboveAt d id xid b _) (λ a. late-choose a _ _ (late-searchFrom d id xid b left _ _) (late-searchFrom d id xid b left _ _))) (late-done _)
+
+late-search : (d : Description) (id : ObjectId) (xid : ℕ) (b : List ℕ) → Late (search d id xid b)
+unfolding search
+late-search d id xid b = late-searchFrom d id xid b _ _ _
+
+late-childAt : (c : Container) (d : Description) (level : ℕ) (b : List ℕ) (i : ℕ) → Late (childAt c d level b i)
+unfolding childAt
+late-childAt c d level b i = late-bind _ _ (late-entry d b i) (λ e. late-bind _ _ (late-pointer _) (λ a. late-bind _ _ (late-readNode c _) (λ n. late-oneBelow level n)))
+
+late-lookupFrom : (c : Container) (d : Description) (id : ObjectId) (left : ℕ) (b : List ℕ) → Late (lookupFrom c d id left b)
+unfolding lookupFrom
+late-lookupFrom c d id zero b = late-refuse _ _ refl
+late-lookupFrom c d id (suc level) b =
+    late-bind _ _ (late-search d id _ b) (λ n. late-choose (eqb n 0) _ _ (late-done _) (late-choose (isLeaf b) _ _
+    (late-bind _ _ (late-entry d b _) (λ e. late-done _))
+    (late-bind _ _ (late-childAt c d level b _) (late-lookupFrom c d id level))))
+
+late-lookupLe : (c : Container) (d : Description) (id : ObjectId) (b : List ℕ) → Late (lookupLe c d id b)
+unfolding lookupLe
+late-lookupLe c d id b = late-lookupFrom c d id _ b
+
+late-liveAddress : (v : List ℕ) → Late (liveAddress v)
+unfolding liveAddress
+late-liveAddress v = late-bind _ _ (late-field _ _ _) (λ a. late-test _ _ _ refl (late-done _))
+
+late-mappedBy : (id : ObjectId) (key : List ℕ) (v : Option (List ℕ)) → Late (mappedBy id key v)
+unfolding mappedBy
+late-mappedBy id key none = late-refuse _ _ refl
+late-mappedBy id key (some v) = late-bind _ _ (late-field _ _ _) (λ i. late-test _ _ _ refl (late-liveAddress v))
+
+late-volumeAddress : (id : ObjectId) (e : Option Entry) → Late (volumeAddress id e)
+unfolding volumeAddress
+late-volumeAddress id none = late-refuse _ _ refl
+late-volumeAddress id (some e) = late-mappedBy id _ _
+
+late-readVolume : (c : Container) (a : Address) → Late (readVolume c a)
+unfolding readVolume
+late-readVolume c a = late-bind _ _ (late-readObject c a) (λ b. late-test _ _ _ refl (late-done _))
+
+module _ (c : Container) (d : Description) (b : List ℕ) where
+  late-volumeFor : (id : ObjectId) → Late (volumeFor c d b id)
+  unfolding volumeFor addressFor
+  late-volumeFor id = late-bind _ _ (late-bind _ _ (late-lookupLe c d id b) (late-volumeAddress id)) (late-readVolume c)
+
+  late-volumeAt : (id : ObjectId) → Late (volumeAt c d b id)
+  unfolding volumeAt
+  late-volumeAt id = late-choose (eqb (id .0) 0) _ _ (late-done _) (late-bind _ _ (late-volumeFor id) (λ v. late-done _))
+
+  late-volumesFrom : (sb : List ℕ) (left i : ℕ) → Late (volumesFrom c d b sb left i)
+  unfolding volumesFrom
+  late-volumesFrom sb zero i = late-done _
+  late-volumesFrom sb (suc left) i = late-bind _ _ (late-volumeAt _) (λ v. late-bind _ _ (late-volumesFrom sb left (i + 1)) (λ rest. late-done _))
+
+module _ (c : Container) where
+  late-claimTree : (kind : ℕ) (a : Address) (s : Marked OverlapLog) → Late (claimTree c kind a s)
+  unfolding claimTree
+  late-claimTree kind a s = late-bind _ _ (late-readNode c a) (λ b. late-bind _ _ (late-describe b) (λ d. late-walk _ c d (late-claimNode c kind) a s))
+
+  late-readMap : (a : Address) → Late (readMap c a)
+  unfolding readMap
+  late-readMap a = late-test _ _ _ refl (late-bind _ _ (late-readRaw c a) (λ b. late-done _))
+
+  late-claimVolume : (v : List ℕ) (s : Marked OverlapLog) → Late (claimVolume c v s)
+  unfolding claimVolume claimSnapshots
+  late-claimVolume v s =
+      late-bind _ _ (late-claim c _ _ _ s) (λ s₁.
+      late-bind _ _ (late-readMap _) (λ r.
+      late-bind _ _ (late-claimTree _ r s₁) (λ s₂.
+      late-bind _ _ (late-claimTree _ _ s₂) (λ s₃.
+      late-choose (eqb (snapshotsAddress v .0) 0) _ _ (late-done _) (late-claimTree _ _ s₃)))))
+
+  late-claimEach : (vs : List (List ℕ)) (s : Marked OverlapLog) → Late (claimEach c vs s)
+  unfolding claimEach
+  late-claimEach [] s = late-done _
+  late-claimEach (v ∷ vs) s = late-bind _ _ (late-claimVolume v s) (late-claimEach vs)
+
+  late-claimVolumes : (d : Description) (b sb : List ℕ) (s : Marked OverlapLog) → Late (claimVolumes c d b sb s)
+  unfolding claimVolumes
+  late-claimVolumes d b sb s = late-bind _ _ (late-volumesFrom c d b sb _ _) (λ vs. late-claimEach vs s)
+
 -- the whole
 
 module _ (c : Container) (sb : List ℕ) (mapped : ObjectId → Mapped) where
@@ -514,11 +611,12 @@ module _ (c : Container) (sb : List ℕ) (mapped : ObjectId → Mapped) where
       late-bind _ _ (late-claim c _ _ _ s₄) (λ s₅. late-claim c _ _ _ s₅)))))
 
   late-claimObjects : (root : Address) (s : Marked OverlapLog) → Late (claimObjects c sb mapped root s)
-  unfolding claimObjects
+  unfolding claimObjects claimMappingsAndVolumes
   late-claimObjects root s =
       late-bind _ _ (late-readNode c root) (λ b.
       late-bind _ _ (late-describe b) (λ d.
-      late-bind _ _ (late-walk _ c d (late-claimNode c _) root s) (λ s₁. late-claimMappings c d b s₁)))
+      late-bind _ _ (late-walk _ c d (late-claimNode c _) root s) (λ s₁.
+      late-bind _ _ (late-claimMappings c d b s₁) (late-claimVolumes c d b sb))))
 
   late-claimTrees : (x : Parts) (s : Marked OverlapLog) → Late (claimTrees c sb mapped x s)
   unfolding claimTrees

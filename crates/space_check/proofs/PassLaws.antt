@@ -8,7 +8,7 @@ use Rattle.blocks.specs.declared.Address.{Address}
 use Rattle.blocks.specs.declared.Container.{Container}
 use Rattle.blocks.specs.declared.ObjectId.{ObjectId}
 use Rattle.blocks.specs.declared.Refusal.{Refusal}
-use Rattle.blocks.proofs.Laws.{andThen, run-bind, then-given, then-refused, both}
+use Rattle.blocks.proofs.Laws.{then-given, then-refused, both, bind-done}
 use Rattle.nodes.specs.Node.{readNode, describe}
 use Rattle.nodes.specs.ObjectMap.{readObjectMap, describeMap, loadObjectMap}
 use Rattle.nodes.specs.Walk.{walk}
@@ -25,20 +25,13 @@ use Rattle.report.specs.declared.OverlapLog.{OverlapLog}
 use Rattle.report.specs.declared.Report.{Report}
 use Rattle.report.proofs.StepLaws.{stepped-done}
 use Rattle.pool.specs.Pool.{Pool, loadPool}
-use Rattle.claims.specs.Claims.{objectMapNode, claim, claimNode, claimMappings}
+use Rattle.claims.specs.Claims.{objectMapNode, claim, claimNode}
 use Rattle.trees.proofs.ScanLaws.{bind-cong}
-use Rattle.space_check.specs.Check.{Parts, poolPart, managerPart, loadParts, claimAreas, claimObjects}
+use Rattle.volumes.specs.Volumes.{claimVolumes}
+use Rattle.space_check.specs.Check.{Parts, poolPart, managerPart, loadParts, claimAreas, claimMappingsAndVolumes, claimObjects}
 use Rattle.space_check.specs.contracts.Stages.{superblockArea, poolArea, areaOf, areasFrom}
 use Rattle.space_check.specs.declared.Area.{Area}
 use Rattle.space_check.specs.declared.Passed.{Passed}
-
-bind-done : {A : Type 0} (f : ℕ → List ℕ) (p : Reads A) → run f (p >>= λ a. done a) ≡ run f p
-unfolding run
-bind-done {A} f p = run-bind f p _ ∙ go (run f p)
-  where
-    go : (o : Outcome A) → andThen o (λ a. given a) ≡ o
-    go (given a) = refl
-    go (refused r) = refl
 
 -- the areas from a kind on
 module _ (c : Container) (sb sm : List ℕ) (kind : ℕ) (s : Marked OverlapLog) where
@@ -108,7 +101,7 @@ module _ (f : ℕ → List ℕ) (c : Container) (sb : List ℕ) (mapped : Object
     pub areas-run : (s : Marked OverlapLog) → run f (areasFrom c sb sm 6 1 s) ≡ run f (claimAreas c sb mapped sm s)
     unfolding areasFrom areaOf superblockArea poolArea claimAreas
     areas-run s₀ =
-        bind-cong f (claim c 1 _ _ s₀) _ _ (λ s₁. bind-cong f (claim c 2 _ _ s₁) _ _ (λ s₂. bind-cong f (claim c 3 _ _ s₂) _ _ (λ s₃. bind-cong f (claim c 4 _ _ s₃) _ _ (λ s₄. bind-cong f (claim c 5 _ _ s₄) _ _ (λ s₅. bind-done f (claim c 6 _ _ s₅))))))
+        bind-cong f (claim c 1 _ _ s₀) _ _ (λ s₁. bind-cong f (claim c 2 _ _ s₁) _ _ (λ s₂. bind-cong f (claim c 3 _ _ s₂) _ _ (λ s₃. bind-cong f (claim c 4 _ _ s₃) _ _ (λ s₄. bind-cong f (claim c 5 _ _ s₄) _ _ (λ s₅. ap (run f) (bind-done (claim c 6 _ _ s₅)))))))
 
   -- the object map's nodes and mappings, once its root was read
   module _ (root : Address) (s : Marked OverlapLog) (b : List ℕ) (e : run f (readNode c root) ≡ given b) where
@@ -116,9 +109,13 @@ module _ (f : ℕ → List ℕ) (c : Container) (sb : List ℕ) (mapped : Object
     unfolding claimObjects
     objects-undescribed r q = then-given f _ _ b e ∙ then-refused f _ _ r q
 
-    pub objects-described : (d : Description) → run f (describe b) ≡ given d → run f (claimObjects c sb mapped root s) ≡ run f (walk (claimNode c objectMapNode) c d root s >>= claimMappings c d b)
+    pub objects-described : (d : Description) → run f (describe b) ≡ given d → run f (claimObjects c sb mapped root s) ≡ run f (walk (claimNode c objectMapNode) c d root s >>= claimMappingsAndVolumes c sb mapped d b)
     unfolding claimObjects
     objects-described d q = then-given f _ _ b e ∙ then-given f _ _ d q
+
+-- n are the superblock's bytes
+pub volumes-of : (c : Container) (d : Description) (b : List ℕ) (s : Marked OverlapLog) (n sb : List ℕ) → n ≡ sb → claimVolumes c d b n s ≡ claimVolumes c d b sb s
+volumes-of c d b s n sb e = rw e refl
 
 -- a step that was done, and what is made of what it left
 pub made : {F R : Type 0} {f : ℕ → List ℕ} {count : ℕ} {ending : Ending} {before after : List ℕ} {figures : F} {p : Reads (Marked F)} (h : Stepped f count ending before after figures p) (make : Marked F → R) (x : R)

@@ -13,6 +13,7 @@ use Rattle.blocks.specs.declared.ObjectId.{ObjectId}
 use Rattle.nodes.specs.Node.{readNode, describe}
 use Rattle.nodes.specs.Walk.{walk}
 use Rattle.nodes.specs.ObjectMap.{loadObjectMap}
+use Rattle.nodes.specs.declared.Description.{Description}
 use Rattle.checkpoint.specs.Superblock.{descriptorBase, descriptorBlocks, dataBase, dataBlocks, objectMapAddress, withoutTopBit}
 use Rattle.checkpoint.specs.Geometry.{geometry, leastSize}
 use Rattle.checkpoint.specs.Map.{lookup}
@@ -27,6 +28,7 @@ use Rattle.queue.specs.Queue.{queue}
 use Rattle.totals.specs.Totals.{lostFrom, isLeaked, verdictOf}
 use Rattle.audit.specs.Audit.{noAudit, auditDevice, auditQueued}
 use Rattle.claims.specs.Claims.{containerSuperblock, descriptorArea, dataArea, internalPool, poolBitmapRing, objectMap, objectMapNode, claim, claimNode, claimMappings, claimQueued}
+use Rattle.volumes.specs.Volumes.{claimVolumes}
 use Rattle.report.specs.declared.Answer.{Answer}
 use Rattle.audit.specs.declared.Audit.{Audit}
 use Rattle.report.specs.declared.OverlapLog.{OverlapLog}
@@ -83,13 +85,17 @@ module _ (c : Container) (sb : List ℕ) (mapped : ObjectId → Mapped) where
     s₅ ← claim c poolBitmapRing (poolRingBase sm) (poolRingBlocks sm) s₄
     claim c objectMap (objectMapAddress sb .0) 1 s₅
 
-  -- claims 7 and 8: the nodes of the object map's tree, then its mappings
+  -- claim 8, and after it document 02's claims of the volumes' own trees: "This comes after claim 8 and before the main queue."
+  unfoldable pub claimMappingsAndVolumes : Description → List ℕ → Marked OverlapLog → Reads (Marked OverlapLog)
+  claimMappingsAndVolumes d b s = claimMappings c d b s >>= claimVolumes c d b sb
+
+  -- claims 7 and 8: the nodes of the object map's tree, then its mappings; and the own trees of the volumes, 6, 7, 10 and 11
   unfoldable pub claimObjects : Address → Marked OverlapLog → Reads (Marked OverlapLog)
   claimObjects root s = do
     b ← readNode c root
     d ← describe b
     s₁ ← walk (claimNode c objectMapNode) c d root s
-    claimMappings c d b s₁
+    claimMappingsAndVolumes d b s₁
 
   -- claims 7 to 9; 9 is "free queue (pending release), from queue 1"
   unfoldable pub claimTrees : Parts → Marked OverlapLog → Reads (Marked OverlapLog)
@@ -105,7 +111,7 @@ module _ (c : Container) (sb : List ℕ) (mapped : ObjectId → Mapped) where
   unfoldable pub auditAndClaim : List ℕ → Parts → Reads (Marked Report)
   auditAndClaim map x = audit x map >>= claimAndReport x
 
-  -- "From here, at whichever read, test or sum comes first in the order above": refusals 12 to 22, from a map whose bytes are cleared
+  -- "From here, at whichever read, test or sum comes first in the order above": refusals from 12 on, from a map whose bytes are cleared
   unfoldable pub body : List ℕ → Reads (Marked Report)
   body map = loadParts >>= auditAndClaim map
 

@@ -10,15 +10,16 @@ use claims::Claimed;
 use manager::offsets::MAIN_QUEUE;
 use manager::offsets::POOL_QUEUE;
 use manager::place;
+use nodes::Description;
 use nodes::DescriptionAnswer;
 use pool::PoolPlace;
 use report::Ending;
 use report::OverlapLog;
 ghost use Rattle.blocks.specs.contracts.Images.{blocksIn};
 ghost use Rattle.audit.specs.contracts.Answers.{AuditsOn};
-ghost use Rattle.trees.specs.contracts.Answers.{ClaimsAs};
+ghost use Rattle.trees.specs.contracts.Answers.{ClaimsAs, TreeReadAt};
 ghost use Rattle.trees.specs.contracts.Read.{NodeRead};
-ghost use Rattle.space_check.specs.contracts.Stages.{auditOf, objectsOf, treesOf, claimsOf, ClaimsOn, RootRead};
+ghost use Rattle.space_check.specs.contracts.Stages.{auditOf, mappingsOf, objectsOf, treesOf, claimsOf, ClaimsOn, RootRead};
 
 // The main device in the order of its list, then the pool queue.
 pub(crate) fn audit_all(
@@ -50,7 +51,41 @@ pub(crate) fn audit_all(
     }
 }
 
-// Claims 7 and 8: the nodes of the object map's tree, then its mappings, for which no node is read again.
+// Claim 8, for which no node is read again, and then the volumes' own trees.
+fn claim_mappings_and_volumes(
+    image: &[u8],
+    map: &mut [u8],
+    checkpoint: Checkpoint,
+    pool: PoolPlace,
+    description: Description,
+    root: Address,
+    log: OverlapLog,
+) -> Claimed
+    requires { ⌜ TreeReadAt image checkpoint description root ⌝ }
+    ensures { λ r. ⌜ ClaimsAs image map (checkpoint .container) log r (mappingsOf checkpoint description root) ⌝ }
+{
+    let claimed = trees::queues::claim_mappings(
+        image,
+        map,
+        checkpoint,
+        pool,
+        description,
+        root,
+        log,
+    );
+    let ending = claimed.ending;
+    match ending {
+        Ending::Refused(_) => claimed,
+        Ending::Done => {
+            let log = claimed.log;
+            let container = checkpoint.container;
+            let sb = blocks::block(image, container.size, checkpoint.superblock);
+            volumes::own_trees::claim_volumes(image, map, container, description, root, sb, log)
+        }
+    }
+}
+
+// Claims 7 and 8: the nodes of the object map's tree, then its mappings; and the own trees of the volumes, 6, 7, 10 and 11.
 fn claim_objects(
     image: &[u8],
     map: &mut [u8],
@@ -77,14 +112,14 @@ fn claim_objects(
                 Ending::Refused(_) => walked,
                 Ending::Done => {
                     let log = walked.log;
-                    trees::queues::claim_mappings(image, map, checkpoint, pool, d, root, log)
+                    claim_mappings_and_volumes(image, map, checkpoint, pool, d, root, log)
                 }
             }
         }
     }
 }
 
-// Claims 7 to 9: the object map's nodes and mappings, then the main queue.
+// Claims 7 to 9: the object map's nodes and mappings, the volumes, then the main queue.
 fn claim_trees(
     image: &[u8],
     map: &mut [u8],

@@ -67,7 +67,3 @@ narrower {F} {G} {f} {count} {ending} {before} {after} {figures} {q} up down p h
     go Done (refused r) e = let z : _≡_ {A = ℕ} 0 1 = cc in absurd (omega arith)
     go (Refused r) (given t) e = let z : _≡_ {A = ℕ} 0 1 = cc in absurd (omega arith)
     go (Refused r) (refused x) e = let same : r ≡ x = cc in ap refused same
-
--- the claims' part of a scan, as the code answers it
-pub claimed-is : {f : ℕ → List ℕ} {count : ℕ} {before after : List ℕ} {p : Reads (Marked OverlapLog)} (r : Claimed) (v : Visited) → r ≡ record { ending = v .ending; log = v .figures .overlaps } → Stepped f count (v .ending) before after (v .figures .overlaps) p → Stepped f count (r .ending) before after (r .log) p
-claimed-is r v q h = rw q h

@@ -26,7 +26,7 @@ ghost use Rattle.trees.specs.contracts.Read.{NodeRead, WalkedFor, ChildR
 ghost use Rattle.trees.specs.contracts.Answers.{FindsPointers, FindsNext, childPast};
 
 // The child pointer of entry index.
-fn pointer_of(node: &[u8], description: Description, index: u64) -> NumberAnswer
+pub fn pointer_of(node: &[u8], description: Description, index: u64) -> NumberAnswer
     ensures { λ r. ⌜ Always (numberAs r) (pointerIn description (bytes node) index) ⌝ }
 {
     let found = nodes::entries::entry(node, description, index);
@@ -114,7 +114,7 @@ fn child_for(image: &[u8], checkpoint: Checkpoint, purpose: Purpose, pointer: u6
 }
 
 // A child that was read must be one level below its parent.
-fn one_below(image: &[u8], container: Container, address: Address, level: u64) -> AddressAnswer
+pub fn one_below(image: &[u8], container: Container, address: Address, level: u64) -> AddressAnswer
     ensures { λ r. ⌜ Finds image container r (λ f. oneBelow level (f (address .0))) ⌝ }
 {
     let child = blocks::block(image, container.size, address);

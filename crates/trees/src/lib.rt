@@ -10,7 +10,7 @@ use report::Ending;
 use report::OverlapLog;
 use report::Step;
 
-mod children;
+pub mod children;
 pub mod queues;
 mod scans;
 pub mod walks;

@@ -84,3 +84,36 @@ fn by_name(r: &Report) -> Vec<Lost> {
     lost.sort_by_key(|lost| lost.kind.name());
     lost
 }
+
+#[cfg(test)]
+mod tests {
+    use crate::names::{Kind, Verdict};
+    use crate::places::{self, FIGURES};
+    use crate::report::Report;
+
+    #[test]
+    fn lost_lines_are_sorted_by_name() {
+        let mut figures = [0; FIGURES];
+        figures[places::VERDICT] = Verdict::Inconsistent.number();
+        for &kind in Kind::ALL {
+            figures[places::lost(kind)] = kind.number();
+            figures[places::first_lost(kind)] = 16 * kind.number();
+        }
+        let listing = Report::of_figures(&figures).unwrap().listing("disk").to_string();
+        let lost = "in use but marked free: 66 blocks
+  checkpoint data area: 3 (first at 0x30)
+  checkpoint descriptor area: 2 (first at 0x20)
+  container superblock: 1 (first at 0x10)
+  extent-reference tree node: 10 (first at 0xa0)
+  free queue (pending release): 9 (first at 0x90)
+  internal pool: 4 (first at 0x40)
+  internal-pool bitmap ring: 5 (first at 0x50)
+  object map: 6 (first at 0x60)
+  object map node: 7 (first at 0x70)
+  snapshot tree node: 11 (first at 0xb0)
+  volume superblock: 8 (first at 0x80)
+allocated but unused (leaked): 0 blocks
+";
+        assert!(listing.contains(lost), "{listing}");
+    }
+}

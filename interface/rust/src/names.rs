@@ -43,7 +43,7 @@ macro_rules! numbered {
 }
 
 numbered! {
-    /// What a block is claimed for, in the order of the claims.
+    /// What a block is claimed for.
     Kind {
         ContainerSuperblock = 1, "container superblock";
         DescriptorArea = 2, "checkpoint descriptor area";
@@ -54,6 +54,8 @@ numbered! {
         ObjectMapNode = 7, "object map node";
         VolumeSuperblock = 8, "volume superblock";
         FreeQueue = 9, "free queue (pending release)";
+        ExtentNode = 10, "extent-reference tree node";
+        SnapshotNode = 11, "snapshot tree node";
     }
 }
 
@@ -78,7 +80,8 @@ numbered! {
 }
 
 numbered! {
-    /// Why there is no report, in checking order. 19 was for address blocks, which are followed since 0.2.0; it is not used again.
+    /// Why there is no report; up to 22 in checking order. 19 was for address blocks, which are followed since 0.2.0; it is
+    /// not used again.
     Refusal {
         ShortImage = 1, "the image is shorter than 4,096 bytes";
         NoMagic = 2, "the image does not begin with a container superblock";
@@ -94,15 +97,17 @@ numbered! {
         PastContainer = 12, "a pointer leads past the end of the container, or to block 0 where something else must stand";
         BadChecksum = 13, "a checksum does not match: something was damaged, or only partly written";
         WrongKind = 14, "a block does not hold the kind of object that must stand there";
-        BadNode = 15, "a tree node is laid out in an impossible way, or the object map's tree is not of its usual form";
+        BadNode = 15, "a tree node is laid out in an impossible way, or a tree is not of its usual form";
         Unmapped = 16, "the checkpoint's map lacks an object that the check needs";
         OutsideBytes = 17, "a list, an entry or a pointer is missing, or runs past the end of what holds it";
         WrongLevel = 18, "a tree node stands on another level than its parent says";
         BadBitmap = 20, "a bitmap is too small for what it describes, or marks a block past the end of the container";
         Overflow = 21, "numbers do not add up: a sum passes 64 bits, the space manager lies before its area, or queued blocks of the \
              internal pool lie past the end of the container";
-        TooManyNodes = 22, "the object map's tree is too deep, or has more nodes than the container has blocks, as one that leads back \
-             into itself";
+        TooManyNodes = 22, "an object map's, extent-reference or snapshot tree is too deep, or has more nodes than the container has \
+             blocks, as one that leads back into itself";
+        VolumeUnmapped = 23, "the object map does not lead to a volume of the container: its entry there is missing, empty or deleted";
+        NotVolume = 24, "a volume's entry in the object map leads to something else than a volume superblock";
     }
 }
 
@@ -137,7 +142,7 @@ mod tests {
     #[test]
     fn a_number_without_a_name() {
         assert_eq!((Kind::from_number(0), Refusal::from_number(u64::MAX)), (None, None));
-        assert_eq!(Refusal::from_number(22), Some(Refusal::TooManyNodes));
+        assert_eq!(Refusal::from_number(24), Some(Refusal::NotVolume));
         // no longer given, and not used again
         assert_eq!(Refusal::from_number(19), None);
     }

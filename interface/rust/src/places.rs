@@ -34,16 +34,20 @@ places! {
     OVERLAPS = 28;
     /// The first ten overlaps, each block, owner and claimant.
     OVERLAP = 29;
-    /// Blocks owned but unmarked, of each kind: see [`lost`].
+    /// Blocks owned but unmarked, of kinds 1 to 9: see [`lost`].
     LOST = 59;
-    /// The first such of each kind: see [`first_lost`].
+    /// The first such of each of them: see [`first_lost`].
     FIRST_LOST = 68;
     /// Blocks marked but unowned.
     LEAKED = 77;
     /// 1 consistent, 2 inconsistent.
     VERDICT = 78;
+    /// Blocks owned but unmarked, of kinds 10 and 11.
+    LATER_LOST = 79;
+    /// The first such of each of them.
+    LATER_FIRST_LOST = 81;
     /// An answer is so many numbers.
-    FIGURES = 79;
+    FIGURES = 83;
 }
 
 /// So many problems, and so many overlaps, are named in a report.
@@ -55,14 +59,28 @@ pub const PROBLEM_NUMBERS: usize = (FREE - PROBLEM) / LOGGED;
 /// A named overlap is so many numbers.
 pub const OVERLAP_NUMBERS: usize = (LOST - OVERLAP) / LOGGED;
 
+/// Kinds with places among the numbers of version 0.1.0. Later ones follow at the end, so that an array of those numbers has
+/// them as before.
+const BASE_KINDS: usize = FIRST_LOST - LOST;
+
 /// Where the lost blocks of a kind are counted.
 pub fn lost(kind: Kind) -> usize {
-    LOST + kind.number() as usize - 1
+    of_kind(kind, LOST, LATER_LOST)
 }
 
 /// Where the first lost block of a kind stands.
 pub fn first_lost(kind: Kind) -> usize {
-    FIRST_LOST + kind.number() as usize - 1
+    of_kind(kind, FIRST_LOST, LATER_FIRST_LOST)
+}
+
+/// A kind's place, by where its row begins among the base's numbers and where among the later ones.
+fn of_kind(kind: Kind, base: usize, later: usize) -> usize {
+    let index = kind.number() as usize - 1;
+    if index < BASE_KINDS {
+        base + index
+    } else {
+        later + index - BASE_KINDS
+    }
 }
 
 #[cfg(test)]
@@ -72,9 +90,16 @@ mod tests {
     #[test]
     fn each_kind_has_places_of_its_own() {
         let places: Vec<usize> = Kind::ALL.iter().flat_map(|&kind| [lost(kind), first_lost(kind)]).collect();
-        let named = |place| ALL.iter().any(|&(name, at)| at == place && name != "LOST" && name != "FIRST_LOST");
+        let named = |place| ALL.iter().any(|&(name, at)| at == place && !name.ends_with("LOST"));
         for (i, &place) in places.iter().enumerate() {
             assert!(place < FIGURES && !named(place) && !places[..i].contains(&place), "place {place}");
         }
+    }
+
+    #[test]
+    fn kinds_that_came_later_stand_at_the_end() {
+        let of = |kind| (lost(kind), first_lost(kind));
+        assert_eq!((of(Kind::ContainerSuperblock), of(Kind::FreeQueue)), ((59, 68), (67, 76)));
+        assert_eq!((of(Kind::ExtentNode), of(Kind::SnapshotNode)), ((79, 81), (80, 82)));
     }
 }

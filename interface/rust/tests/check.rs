@@ -1,4 +1,5 @@
 // The 16-block container of document 01's listing, which is also the listing program's input.
+use space_check::places::LATER_LOST;
 use space_check::{block_size, blocks, check, figures, figures_into, Cell, Kind, Lost, Refusal, Verdict, FIGURES};
 
 const CONTAINER: &[u8] = include_bytes!("../../../crates/listing/stdin");
@@ -39,7 +40,8 @@ fn a_lost_and_a_leaked_block() {
 fn arrays_of_other_lengths() {
     let mut map = vec![0; BLOCKS];
     let whole = figures(CONTAINER, &mut map);
-    for length in [0, 1, 28, FIGURES - 1, FIGURES, FIGURES + 4] {
+    // the numbers of version 0.1.0 are those before the later kinds
+    for length in [0, 1, 28, LATER_LOST, FIGURES - 1, FIGURES, FIGURES + 4] {
         let (mut array, mut map_again) = (vec![u64::MAX; length], vec![0xff; BLOCKS]);
         figures_into(CONTAINER, &mut map_again, &mut array);
         let kept = vec![u64::MAX; length.saturating_sub(FIGURES)];

@@ -11,6 +11,7 @@ use Rattle.blocks.specs.Blocks.{blockOf}
 use Rattle.blocks.specs.contracts.Images.{Lent, bytes, blocksIn, Pass}
 use Rattle.blocks.specs.declared.Address.{Address}
 use Rattle.blocks.specs.declared.Container.{Container}
+use Rattle.nodes.specs.declared.Description.{Description}
 use Rattle.checkpoint.specs.Superblock.{descriptorBase, descriptorBlocks, dataBase, dataBlocks, objectMapAddress, withoutTopBit}
 use Rattle.checkpoint.specs.Checkpoint.{takeSuperblock}
 use Rattle.checkpoint.specs.contracts.Answers.{takenIn}
@@ -32,7 +33,7 @@ use Rattle.audit.specs.declared.Audit.{Audit}
 use Rattle.claims.specs.Claims.{containerSuperblock, descriptorArea, dataArea, internalPool, objectMap, claim}
 use Rattle.claims.specs.declared.Claimed.{Claimed}
 use Rattle.trees.specs.contracts.Read.{NodeRead}
-use Rattle.space_check.specs.Check.{Result, Parts, poolPart, managerPart, loadParts, audit, claimAreas, claimObjects, claimTrees, claims, reportOf, claimAndReport, auditAndClaim, body, settle, rest, pass}
+use Rattle.space_check.specs.Check.{Result, Parts, poolPart, managerPart, loadParts, audit, claimAreas, claimMappingsAndVolumes, claimObjects, claimTrees, claims, reportOf, claimAndReport, auditAndClaim, body, settle, rest, pass}
 use Rattle.space_check.specs.declared.Area.{Area}
 use Rattle.space_check.specs.declared.PartsPlace.{PartsPlace}
 use Rattle.space_check.specs.declared.Passed.{Passed}
@@ -92,6 +93,9 @@ auditOf k x f = audit (k .container) (superblockOf f k) (mappedIn f k) (partsIn 
 
 abbrev pub areasOf : Checkpoint → Manager → Pass (Marked OverlapLog) (Marked OverlapLog)
 areasOf k m f = claimAreas (k .container) (superblockOf f k) (mappedIn f k) (placed f (k .container .size) m)
+
+abbrev pub mappingsOf : Checkpoint → Description → Address → Pass (Marked OverlapLog) (Marked OverlapLog)
+mappingsOf k d root f = claimMappingsAndVolumes (k .container) (superblockOf f k) (mappedIn f k) d (f (root .0))
 
 abbrev pub objectsOf : Checkpoint → Address → Pass (Marked OverlapLog) (Marked OverlapLog)
 objectsOf k root f = claimObjects (k .container) (superblockOf f k) (mappedIn f k) root

@@ -30,8 +30,8 @@ enum-told c = search needs
 enum-told-2 : tie.Need-enum-told-2
 enum-told-2 c = search needs
 
-claim-mappings-requires : tie.Need-claim-mappings-requires
-claim-mappings-requires c κs = walk-read _ _ _ _ _ _ _ (stepped-done (c .before .before .before .before .before .before .walk .ensures) (c .before .before .enum-told2 .given .1))
+claim-mappings-and-volumes-requires : tie.Need-claim-mappings-and-volumes-requires
+claim-mappings-and-volumes-requires c κs = walk-read _ _ _ _ _ _ _ (stepped-done (c .before .before .before .before .before .before .walk .ensures) (c .before .before .enum-told2 .given .1))
 
 returns : tie.Need-returns
 returns c = stays-refused _ _ _ _ (objects-undescribed _ _ _ _ _ _ _ (c .before .before .before .before .before .before .before .before .pre) _ (sym (rw (c .before .before .before .before .block .ensures) at (c .before .before .before .describe .ensures (blockOf (c .before .before .before .before .before .before .before .before .args .image .now) (c .before .before .before .before .before .before .before .before .args .checkpoint .container .size)))) ∙ ap descriptionAs (c .before .described .given .1)))
@@ -46,7 +46,7 @@ same-length-2 : tie.Need-same-length-2
 same-length-2 c = search needs
 
 returns-3 : tie.Need-returns-3
-returns-3 c = same-run _ (step-then (c .before .before .before .before .before .before .before .before .before .walk .ensures) _ (c .before .before .before .before .before .enum-told2 .given .1) (c .before .before .claim-mappings .ensures)) (sym (objects-described _ _ _ _ _ _ _ (c .before .before .before .before .before .before .before .before .before .before .before .before .before .before .before .before .before .before .before .pre) _ (sym (rw (c .before .before .before .before .before .before .before .before .before .before .before .before .before .before .before .block .ensures) at (c .before .before .before .before .before .before .before .before .before .before .before .before .before .before .describe .ensures (blockOf (c .before .before .before .before .before .before .before .before .before .before .before .before .before .before .before .before .before .before .before .args .image .now) (c .before .before .before .before .before .before .before .before .before .before .before .before .before .before .before .before .before .before .before .args .checkpoint .container .size)))) ∙ ap descriptionAs (c .before .before .before .before .before .before .before .before .before .before .before .before .described2 .given .1))))
+returns-3 c = same-run _ (step-then (c .before .before .before .before .before .before .before .before .before .walk .ensures) _ (c .before .before .before .before .before .enum-told2 .given .1) (c .before .before .claim-mappings-and-volumes .ensures)) (sym (objects-described _ _ _ _ _ _ _ (c .before .before .before .before .before .before .before .before .before .before .before .before .before .before .before .before .before .before .before .pre) _ (sym (rw (c .before .before .before .before .before .before .before .before .before .before .before .before .before .before .before .block .ensures) at (c .before .before .before .before .before .before .before .before .before .before .before .before .before .before .describe .ensures (blockOf (c .before .before .before .before .before .before .before .before .before .before .before .before .before .before .before .before .before .before .before .args .image .now) (c .before .before .before .before .before .before .before .before .before .before .before .before .before .before .before .before .before .before .before .args .checkpoint .container .size)))) ∙ ap descriptionAs (c .before .before .before .before .before .before .before .before .before .before .before .before .described2 .given .1))))
 
 pub claim-objects-spec : {M : Type 1} → statement M
 claim-objects-spec =
@@ -59,7 +59,7 @@ claim-objects-spec =
     walk-requires
     enum-told
     enum-told-2
-    claim-mappings-requires
+    claim-mappings-and-volumes-requires
     returns
     same-length
     returns-2

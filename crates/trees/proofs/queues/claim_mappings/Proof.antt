@@ -1,5 +1,6 @@
 use Rattle.trees.proofs.QueueLaws.{claim-mappings}
-use Rattle.trees.proofs.VisitLaws.{narrower, claimed-is}
+use Rattle.trees.proofs.VisitLaws.{narrower}
+use Rattle.claims.proofs.Laws.{claimed-is}
 use Rattle.trees.specs.declared.Figures.{Figures}
 use Rattle.audit.specs.Audit.{noAudit}
 use Rattle.report.specs.declared.OverlapLog.{OverlapLog}
@@ -21,7 +22,7 @@ same-length : tie.Need-same-length
 same-length c = c .before .before .before .scan .ensures .kept .long
 
 returns : tie.Need-returns
-returns c = claimed-is _ (c .before .before .before .scan .result) (c .overlaps-in .ensures) (narrower (λ (o : OverlapLog). record { audit = noAudit; overlaps = o }) (λ (x : Figures). x .overlaps) _ (c .before .before .before .scan .ensures) (λ x. refl) (rw (c .before .before .before .before .unaudited .ensures) (claim-mappings _ _ _ _ _ _ _)))
+returns c = claimed-is _ _ _ (c .overlaps-in .ensures) (narrower (λ (o : OverlapLog). record { audit = noAudit; overlaps = o }) (λ (x : Figures). x .overlaps) _ (c .before .before .before .scan .ensures) (λ x. refl) (rw (c .before .before .before .before .unaudited .ensures) (claim-mappings _ _ _ _ _ _ _)))
 
 pub claim-mappings-spec : {M : Type 1} → statement M
 claim-mappings-spec =

@@ -1,6 +1,7 @@
 use Rattle.trees.proofs.QueueLaws.{claim-queue}
 use Rattle.trees.proofs.ReadLaws.{main-queue-else}
-use Rattle.trees.proofs.VisitLaws.{narrower, claimed-is}
+use Rattle.trees.proofs.VisitLaws.{narrower}
+use Rattle.claims.proofs.Laws.{claimed-is}
 use Rattle.trees.specs.declared.Figures.{Figures}
 use Rattle.audit.specs.Audit.{noAudit}
 use Rattle.report.specs.declared.OverlapLog.{OverlapLog}
@@ -22,7 +23,7 @@ same-length : tie.Need-same-length
 same-length c = c .before .before .before .scan-queue .ensures .kept .long
 
 returns : tie.Need-returns
-returns c = claimed-is _ (c .before .before .before .scan-queue .result) (c .overlaps-in .ensures) (narrower (λ (o : OverlapLog). record { audit = noAudit; overlaps = o }) (λ (x : Figures). x .overlaps) _ (c .before .before .before .scan-queue .ensures) (λ x. refl) (rw (c .before .before .before .before .unaudited .ensures) (claim-queue _ _ _ _ _ _)))
+returns c = claimed-is _ _ _ (c .overlaps-in .ensures) (narrower (λ (o : OverlapLog). record { audit = noAudit; overlaps = o }) (λ (x : Figures). x .overlaps) _ (c .before .before .before .scan-queue .ensures) (λ x. refl) (rw (c .before .before .before .before .unaudited .ensures) (claim-queue _ _ _ _ _ _)))
 
 pub claim-queue-spec : {M : Type 1} → statement M
 claim-queue-spec =
