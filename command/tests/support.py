@@ -28,6 +28,8 @@ os.environ['PATH'] += ':/usr/sbin:/sbin'
 BLOCK = 4096
 # where the sample's chunk bitmap stands, of which bits 0 to 9 are set
 BITMAP = 7 * BLOCK
+# the kind of a space manager
+MANAGER = 5
 
 
 def sample():
@@ -145,18 +147,38 @@ class CommandTest(unittest.TestCase):
         return answer
 
 
+def seal(block):
+    """Writes a block's checksum into it."""
+    last = 2 ** 32 - 1
+    # to the last that isn't 0
+    end = (len(block.rstrip(b'\0')) + 3) // 4 * 4
+    words = [word for word, in struct.iter_unpack('<I', block[8:end])]
+    total = sum(words)
+    running = sum((len(block) // 4 - 2 - i) * word for i, word in enumerate(words))
+    low = last - (total + running) % last
+    block[:8] = struct.pack('<II', low, last - (total + low) % last)
+    return block
+
+
 def sealed(fields):
     """A block of a superblock's fields, each at a place and of a width, with its checksum."""
     block = bytearray(BLOCK)
     for at, width, value in fields:
         block[at:at + width] = value.to_bytes(width, 'little')
-    last = 2 ** 32 - 1
-    words = [word for word, in struct.iter_unpack('<I', block[8:256])]
-    total = sum(words)
-    running = sum((BLOCK // 4 - 2 - i) * word for i, word in enumerate(words))
-    low = last - (total + running) % last
-    block[:8] = struct.pack('<II', low, last - (total + low) % last)
-    return block
+    return seal(block)
+
+
+def numbered(xid, device_free):
+    """The sample with an xid, in each of its objects, and with the device's free count."""
+    image = sample()
+    for at in range(0, len(image), BLOCK):
+        block = image[at:at + BLOCK]
+        if block == seal(block[:]):
+            struct.pack_into('<Q', block, 16, xid)
+            if block[24] == MANAGER:
+                struct.pack_into('<Q', block, 72, device_free)
+            image[at:at + BLOCK] = seal(block)
+    return image
 
 
 def slow(superblocks):

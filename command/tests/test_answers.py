@@ -4,14 +4,19 @@ import struct
 import subprocess
 import unittest
 
-from support import (BASE_KINDS, CONSISTENT, FIGURES, INCONSISTENT, KINDS, PLACES, PROBLEMS, REFUSALS, REFUSED, ROOT, WITHDRAWN,
-                     CommandTest, figure, known, lost_and_leaked, page_rows)
+from support import (BASE_KINDS, CONSISTENT, FIGURES, INCONSISTENT, KINDS, PLACES, PROBLEMS, REFUSALS, REFUSED, ROOT, SAMPLE,
+                     WITHDRAWN, CommandTest, figure, known, lost_and_leaked, numbered, page_rows)
 
 LISTING = os.path.join(ROOT, 'target', 'bin', 'listing')
 
 # the page's rows of problems: line, number, and the name that JSON alone has
 PROBLEM_ROWS = {int(number): (line, name) for line, number, name in page_rows(r'`([^`]*)` \| (\d+), (.*?)')}
 REPORTED = {'consistent': (1, CONSISTENT), 'inconsistent': (2, INCONSISTENT)}
+
+# powers of 2 and of 10 with their neighbours, numbers with zeros inside, and of one digit throughout
+NUMBERS = sorted(n for n in {base ** k + more for base in (2, 10) for k in range(65) for more in (-1, 0, 1)}
+                 | {int(('90' * 10)[:k]) for k in range(1, 21)} | {int(('100' * 7)[:k]) for k in range(1, 21)}
+                 | {int(digit * k) for digit in '123456789' for k in range(1, 21)} if n < 2 ** 64)
 
 
 def figures(answer):
@@ -114,18 +119,37 @@ class Answers(CommandTest):
         self.assertEqual(rows[:len(owners)], owners)
         self.assertEqual([int(number) for number, _ in rows[len(owners):]], sorted({*REFUSALS.values(), *WITHDRAWN}))
 
-    def test_lines_are_those_of_the_proved_listing(self):
-        """The program crates/listing, whose text is proved, on the images that it takes whole."""
+    def proved_lines(self, image):
+        """What the program crates/listing prints, whose text is proved."""
         self.assertTrue(os.path.exists(LISTING), '`rt check listing` makes the program')
+        with open(self.path(image), 'rb') as stdin:
+            return subprocess.run([LISTING], stdin=stdin, capture_output=True, check=True).stdout.decode()
+
+    def test_lines_are_those_of_the_proved_listing(self):
+        """On the images that the program takes whole."""
         reports = 0
         for v in known():
             if len(v['image']) <= 65536:
                 image = self.write('stdin', v['image'])
-                with self.subTest(v['name']), open(self.path(image), 'rb') as stdin:
-                    proved = subprocess.run([LISTING], stdin=stdin, capture_output=True, check=True).stdout
-                    self.assertEqual(self.run_command(image)[1], proved.decode())
-                    reports += proved.startswith(b'space check')
+                with self.subTest(v['name']):
+                    proved = self.proved_lines(image)
+                    self.assertEqual(self.run_command(image)[1], proved)
+                    reports += proved.startswith('space check')
         self.assertGreater(reports, 100)
+
+    def test_numbers_are_written_as_python_writes_them(self):
+        """The two figures of a listing that can be any number of 64 bits."""
+        with open(os.path.join(os.path.dirname(SAMPLE), 'stdout'), encoding='ascii') as file:
+            expected = file.readlines()
+        self.assertEqual((NUMBERS[0], NUMBERS[-1]), (0, 2 ** 64 - 1))
+        for xid, free in zip(NUMBERS, reversed(NUMBERS)):
+            image = self.write('stdin', numbered(xid, free))
+            expected[0] = f'space check  stdin  xid {xid}\n'
+            matches = 'matches' if free == 6 else 'DOES NOT MATCH'
+            expected[2] = f'bitmaps    6 blocks free; chunks with a wrong free count: 0; device free count {free} ({matches})\n'
+            with self.subTest(xid=xid, free=free):
+                self.assertEqual(self.proved_lines(image), ''.join(expected))
+                self.assertEqual(self.run_command(image)[1], ''.join(expected))
 
     def test_listing_of_lost_and_leaked(self):
         image = self.write('disk.img', lost_and_leaked())

@@ -1,7 +1,7 @@
--- What stands in a buffer that has room for the pieces of a text, and what is answered where it has none.
+-- What stands in a buffer that has room for a number or for the pieces of a text, and what is answered where it has none.
 use mathlib.Core.Path.{_≡_, refl, sym, ap, _∙_}
 use mathlib.Core.List.{List, [], _∷_, _++_, append-assoc, flatten}
-use Prim.Native.Nat.{ℕ, _+_, _≤_, _<_}
+use Prim.Native.Nat.{ℕ, _+_, _^_, _≤_, _<_}
 use native.Mathlib.Nat.{le-refl, add-zero, zero-add}
 use native.Mathlib.Omega.{arith}
 use native.Mathlib.Decide.{decLe}
@@ -9,9 +9,11 @@ use lib.ListN.{length, take, drop, length-append}
 use lib.Seq.{paste, paste-zero, length-paste, take-paste, drop-paste, drop-drop, take-length}
 use borrow.Author.Tests.{le-leb}
 use Rattle.report.specs.declared.Answer.{Answer}
+use Rattle.listing_text.specs.Text.{numeral, Shortest}
 use Rattle.listing_text.specs.Listing.{answerLines, listingOf}
 use Rattle.listing_text.specs.contracts.Writing.{Written, upTo, put, putAll}
-use Rattle.listing_text.proofs.Laws.{bytesOf, put-none}
+use Rattle.listing_text.proofs.Laws.{bytesOf, put-none, glue}
+use Rattle.listing_text.proofs.Digits.{shortest}
 use Rattle.listing_text.proofs.Room.{mostBytes, listing-fits}
 
 abbrev endOf : Written → ℕ
@@ -20,9 +22,6 @@ endOf (upTo bytes end) = end
 -- a whole text in a buffer from a place on
 abbrev written : List ℕ → ℕ → List ℕ → List ℕ
 written out at text = paste out at text (length text)
-
-glue : {a a′ b b′ c c′ : List ℕ} → a ≡ a′ → b ≡ b′ → c ≡ c′ → (a ++ b) ++ c ≡ (a′ ++ b′) ++ c′
-glue p q r = λ i. (p i ++ q i) ++ r i
 
 ends : (at : ℕ) (t u : List ℕ) → at + length (t ++ u) ≡ at + length t + length u
 ends at t u = omega (arith, length-append t u)
@@ -61,6 +60,22 @@ all-written (t ∷ ts) out at room =
     ap (putAll ts) (put-room t out at fits)
     ∙ all-written ts (written out at t) (at + length t) left
     ∙ same (written-twice out at t (flatten ts) fits) (sym (ends at t (flatten ts)))
+
+-- document 02, T-04, of what `put_numeral` leaves in a buffer, for every number of 64 bits: "given room, exactly its digits in their
+-- shortest form stand there and no other byte of the line changes"
+module _ (base n : ℕ) (low : 10 ≤ base) (small : n < 2 ^ 64) (out after : List ℕ) (at r : ℕ) (e : upTo after r ≡ put (numeral base n) (upTo out at)) where
+  pub numeral-whole : at + length (numeral base n) ≤ length out
+      → Shortest base n (numeral base n) × (r ≡ at + length (numeral base n)) × (after ≡ take at out ++ numeral base n ++ drop r out)
+  numeral-whole room =
+      let all : upTo after r ≡ upTo (written out at (numeral base n)) (at + length (numeral base n)) = e ∙ put-room (numeral base n) out at room in
+      let end : r ≡ at + length (numeral base n) = ap endOf all in
+      (shortest base n low small, end, ap bytesOf all ∙ glue {a = take at out} refl (take-length (numeral base n)) (ap (λ (m : ℕ). drop m out) (sym end)))
+
+  -- without room nothing changes, and the answer is no place in the buffer
+  pub numeral-cut : length out < at + length (numeral base n) → (after ≡ out) × (r ≡ length out + 1)
+  numeral-cut short =
+      let none : upTo after r ≡ upTo out (length out + 1) = e ∙ sym (put-none (numeral base n) out at (length out + 1) short refl) in
+      (ap bytesOf none, ap endOf none)
 
 -- once a piece had no room, none that follows has
 past : (t out : List ℕ) → put t (upTo out (length out + 1)) ≡ upTo out (length out + 1)

@@ -1,20 +1,17 @@
--- Pieces put into a buffer, numbers in their shortest form, and the loops over a format and over a list's lines; and the lost blocks of all
--- kinds.
+-- Pieces put into a buffer, and the loops over a format and over a list's lines; and the lost blocks of all kinds.
 use mathlib.Core.Path.{_≡_, refl, sym, ap, _∙_}
-use mathlib.Core.Logic.{⊎-elim}
 use mathlib.Core.Bool.{Bool, true, false}
 use mathlib.Core.List.{List, [], _∷_, _++_, flatMap}
-use Prim.Native.Nat.{ℕ, zero, suc, _+_, _-_, _%_, _^_, _≤_, _<_, min}
-use native.Mathlib.Nat.{le-refl, le-trans, lt-irrefl, lt-of-le-of-lt, eq-or-lt-of-le, pow-le-pow-right}
+use Prim.Native.Nat.{ℕ, _+_, _%_, _^_, _≤_, _<_, min}
+use native.Mathlib.Nat.{le-refl}
 use native.Mathlib.Numerals.{add-one}
 use native.Mathlib.Omega.{arith}
 use native.Mathlib.Decide.{decLe}
-use lib.Dec.{ltb, eqb, lit≤}
+use lib.Dec.{eqb, lit≤}
 use lib.ListN.{length, drop, set, getD, length-take, drop-of-length-le, List·getD-eq-default}
 use lib.Seq.{drop-cons, paste, paste-suc, length-paste, length-take-le, getD-take}
-use borrow.Author.Tests.{le-leb, lt-leb, lt-ltb, le-ltb, eq-eqb, ne-eqb}
+use borrow.Author.Tests.{le-leb, lt-leb, eq-eqb, ne-eqb}
 use Rattle.fields.specs.Choice.{pick}
-use Rattle.io.specs.Digits.{digits, Fewest}
 use Rattle.blocks.specs.Refusals.{numberOf}
 use Rattle.blocks.specs.declared.Refusal.{Refusal}
 use Rattle.report.specs.Report.{logged}
@@ -24,10 +21,12 @@ use Rattle.report.specs.declared.Ending.{Ending}
 use Rattle.report.specs.declared.Ending.the-variants.{Done, Refused}
 use Rattle.totals.specs.Totals.{lostIn}
 use Rattle.totals.specs.contracts.Counting.{noLost}
-use Rattle.listing_text.specs.Text.{placesFrom, mostDigits, numeral}
 use Rattle.listing_text.specs.Lines.{decimalSign, hexSign, nameSign, piece, taken, filledFrom, filled, lostLine, lostKindLine, refusedLine}
 use Rattle.listing_text.specs.Listing.{named, lostKindLineOf, reportLines, answerLines}
 use Rattle.listing_text.specs.contracts.Writing.{Written, upTo, put, putAll}
+
+pub glue : {a a′ b b′ c c′ : List ℕ} → a ≡ a′ → b ≡ b′ → c ≡ c′ → (a ++ b) ++ c ≡ (a′ ++ b′) ++ c′
+glue p q r = λ i. (p i ++ q i) ++ r i
 
 module _ (text out : List ℕ) (at : ℕ) where
   pub put-whole : (after : List ℕ) (n : ℕ) → n ≡ length text → at + n ≤ length out → after ≡ paste out at text n
@@ -48,34 +47,6 @@ module _ (text out : List ℕ) (at : ℕ) where
       ap (λ (l : List ℕ). set l (at + i) (getD text i 0)) p
       ∙ paste-suc out at text i 0 room more
       ∙ ap (paste out at text) (sym (add-one i))
-
--- the fewest digits that hold a number are as many as the definition finds
-module _ (base n count : ℕ) (h : 1 < base) (few : Fewest base 1 n count) where
-  too-few : (k : ℕ) → 1 ≤ k → k < count → ltb n (base ^ k) ≡ false
-  too-few k low l = le-ltb n (base ^ k) (le-trans (pow-le-pow-right {n = base} (omega arith) {i = k} {j = count - 1} (omega arith)) (few .2 (omega arith)))
-
-  places-found : (more k : ℕ) → 1 ≤ k → k ≤ count → count ≤ k + more → placesFrom more k base n ≡ count
-  unfolding placesFrom
-  places-found zero k one low high = omega arith
-  places-found (suc more) k one low high =
-      ⊎-elim
-      (λ l. rw (lt-ltb n (base ^ k) (rw l (few .1))) l)
-      (λ l. rw (too-few k one l) (places-found more (k + 1) (omega arith) (omega arith) (omega arith)))
-      (eq-or-lt-of-le low)
-
-  few-enough : n < base ^ mostDigits → count ≤ mostDigits
-  few-enough small = go (decLe count mostDigits)
-    where
-      go : Dec (count ≤ mostDigits) → count ≤ mostDigits
-      go (yes l) = l
-      go (no l) = absurd (lt-irrefl _ (lt-of-le-of-lt (le-trans (pow-le-pow-right {n = base} (omega arith) {i = mostDigits} {j = count - 1} (omega arith)) (few .2 (omega arith))) small))
-
-  pub put-numeral : (text after : List ℕ) (r : ℕ) (w : Written) → n < base ^ mostDigits → text ≡ digits base count n → upTo after r ≡ put text w
-      → upTo after r ≡ put (numeral base n) w
-  unfolding numeral
-  put-numeral text after r w small e p =
-      let room : count ≤ mostDigits = few-enough small in
-      p ∙ ap (λ (t : List ℕ). put t w) (e ∙ ap (λ (k : ℕ). digits base k n) (sym (places-found (mostDigits - 1) 1 (omega arith) (few .0) (omega arith))))
 
 -- a piece by a test
 module _ (t : Bool) (a b : List ℕ) (x w : Written) where

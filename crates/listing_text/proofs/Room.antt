@@ -1,15 +1,14 @@
 -- Every listing has at most `mostBytes` bytes.
-use mathlib.Core.Path.{_≡_, refl, sym}
+use mathlib.Core.Path.{_≡_, sym}
 use mathlib.Core.Bool.{Bool, true, false}
 use mathlib.Core.List.{List, [], _∷_, _++_, flatMap, flatten}
-use Prim.Native.Nat.{ℕ, zero, suc, zero-le, _+_, _-_, _*_, _/_, _^_, _≤_, min}
+use Prim.Native.Nat.{ℕ, zero, suc, zero-le, _+_, _-_, _*_, _^_, _≤_, min}
 use native.Mathlib.Nat.{le-refl, le-trans, zero-add}
 use native.Mathlib.Omega.{arith}
 use lib.Dec.{leb, ltb, eqb, lit≤}
 use lib.ListN.{length, getD, length-append, length-take}
 use Rattle.fields.specs.Choice.{pick}
 use Rattle.blocks.specs.Refusals.{numberOf}
-use Rattle.io.specs.Digits.{digits}
 use Rattle.report.specs.Report.{logged, kinds}
 use Rattle.report.specs.declared.Problem.{Problem}
 use Rattle.report.specs.declared.Overlap.{Overlap}
@@ -19,16 +18,13 @@ use Rattle.report.specs.declared.Ending.{Ending}
 use Rattle.report.specs.declared.Ending.the-variants.{Done, Refused}
 use Rattle.report.specs.declared.Answer.{Answer}
 use Rattle.totals.specs.Totals.{consistent}
-use Rattle.listing_text.specs.Text.{placesFrom, mostDigits, numeral}
+use Rattle.listing_text.specs.Text.{placesFrom, mostDigits, places, numeral}
 use Rattle.listing_text.specs.Lines.{decimalSign, hexSign, nameSign, kindNames, kindName, piece, taken, filledFrom, problemFormats, problemFormat, lastFormat, titleLine, poolLine, bitmapsLine, overlapsLine, lostLine, leakedLine, resultLine, refusedLine}
 use Rattle.listing_text.specs.Listing.{named, problemLineOf, overlapLineOf, placesByName, lostAt, lostKindLineOf, lostTotal, reportLines, answerLines, listingOf}
 use Rattle.listing_text.proofs.Tables.{at-each}
+use Rattle.listing_text.proofs.Digits.{numeral-length}
 
 -- the most bytes of a piece: a number's, a name's, or one
-digits-length : (base k n : ℕ) → length (digits base k n) ≡ k
-digits-length base zero n = refl
-digits-length base (suc k) n = simp length-append (omega (arith, digits-length base k (n / base)))
-
 at-most : (t : Bool) (a b most : ℕ) → a ≤ most → b ≤ most → pick t a b ≤ most
 at-most true a b most h k = h
 at-most false a b most h k = k
@@ -38,9 +34,9 @@ unfolding placesFrom
 places-most zero k base n = omega arith
 places-most (suc more) k base n = at-most (ltb n (base ^ k)) _ _ _ (omega arith) (omega (arith, places-most more (k + 1) base n))
 
-numeral-length : (base n : ℕ) → length (numeral base n) ≤ mostDigits
-unfolding numeral
-numeral-length base n = omega (arith, digits-length base (placesFrom (mostDigits - 1) 1 base n) n, places-most (mostDigits - 1) 1 base n)
+numeral-most : (base n : ℕ) → length (numeral base n) ≤ mostDigits
+unfolding places
+numeral-most base n = omega (arith, numeral-length base n, places-most (mostDigits - 1) 1 base n)
 
 -- the longest name of a kind
 abbrev nameBytes : ℕ
@@ -60,8 +56,8 @@ pick-most false a b m n h k = k
 piece-most : (c n : ℕ) → length (piece c n) ≤ mostOf c
 unfolding piece mostOf
 piece-most c n =
-    pick-most (eqb c decimalSign) _ _ _ _ (numeral-length 10 n)
-    (pick-most (eqb c hexSign) _ _ _ _ (numeral-length 16 n) (pick-most (eqb c nameSign) _ _ _ _ (kind-length n) (le-refl 1)))
+    pick-most (eqb c decimalSign) _ _ _ _ (numeral-most _ n)
+    (pick-most (eqb c hexSign) _ _ _ _ (numeral-most _ n) (pick-most (eqb c nameSign) _ _ _ _ (kind-length n) (le-refl 1)))
 
 -- the most bytes of a format's line
 formatBytes : List ℕ → ℕ

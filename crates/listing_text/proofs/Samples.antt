@@ -15,12 +15,12 @@ use Rattle.report.specs.declared.Overlap.{Overlap}
 use Rattle.report.specs.declared.Report.{Report}
 use Rattle.totals.specs.Totals.{inconsistent, lostIn}
 use Rattle.totals.specs.contracts.Counting.{noLost}
-use Rattle.listing_text.specs.Text.{ascii, placesFrom, numeral, decimal, hex}
+use Rattle.listing_text.specs.Text.{ascii, digits, placesFrom, places, numeral, decimal, hex}
 use Rattle.listing_text.specs.Lines.{kindNames, kindName, piece, taken, filledFrom, problemFormats, problemFormat, problemLine}
 use Rattle.listing_text.specs.Listing.{placesByName, lostKindLineOf, reportLines, answerLines, listingOf}
 
 unfoldable pub computed : Answer → List ℕ
-unfolding noProblems noOverlaps zeroReport refusal reported lostIn placesFrom numeral kindNames kindName piece taken filledFrom problemFormats problemFormat flatMap flatten placesByName lostKindLineOf reportLines answerLines listingOf
+unfolding noProblems noOverlaps zeroReport refusal reported lostIn digits placesFrom places numeral kindNames kindName piece taken filledFrom problemFormats problemFormat flatMap flatten placesByName lostKindLineOf reportLines answerLines listingOf
 computed a = listingOf a
 
 -- the report of a damaged container, with the original's lines but for the size for people, and with document 01's last: a problem,
@@ -104,13 +104,22 @@ last-refusal : listingOf (refusal NotVolume) ≡ ascii "refused 24\n"
 unfolding computed
 last-refusal = refl
 
--- numbers at both ends
-numbers : List (List ℕ)
-numbers = decimal 0 ∷ decimal 10 ∷ decimal (2 ^ 64 - 1) ∷ hex 0 ∷ hex 16 ∷ hex (2 ^ 64 - 1) ∷ []
+-- numbers at both ends, on either side of a digit more, with zeros inside, and with one digit throughout; the text expected is
+-- Python's, `str(n)` and `format(n, 'x')`
+abbrev spaced : (ℕ → List ℕ) → List ℕ → List ℕ
+spaced spell = flatMap (λ n. spell n ++ ascii " ")
 
-spelt : numbers ≡ ascii "0" ∷ ascii "10" ∷ ascii "18446744073709551615" ∷ ascii "0" ∷ ascii "10" ∷ ascii "ffffffffffffffff" ∷ []
-unfolding computed numbers
-spelt = refl
+decimals : spaced decimal (0 ∷ 9 ∷ 10 ∷ 11 ∷ 99 ∷ 100 ∷ 101 ∷ 1020304050607 ∷ 7777777 ∷ (10 ^ 19 - 1) ∷ (10 ^ 19) ∷ (10 ^ 19 + 1) ∷ (2 ^ 64 - 1) ∷ [])
+    ≡ ascii "0 9 10 11 99 100 101 1020304050607 7777777 "
+    ++ ascii "9999999999999999999 10000000000000000000 10000000000000000001 18446744073709551615 "
+unfolding computed
+decimals = refl
+
+hexes : spaced hex (0 ∷ 9 ∷ 10 ∷ 15 ∷ 16 ∷ 17 ∷ 255 ∷ 256 ∷ 0x1020304050607 ∷ 0x7777777 ∷ (2 ^ 60 - 1) ∷ (2 ^ 60) ∷ (2 ^ 64 - 1) ∷ [])
+    ≡ ascii "0 9 a f 10 11 ff 100 1020304050607 7777777 "
+    ++ ascii "fffffffffffffff 1000000000000000 ffffffffffffffff "
+unfolding computed
+hexes = refl
 
 -- lost lines by name: each place once, and the names rise
 before : List ℕ → List ℕ → Bool

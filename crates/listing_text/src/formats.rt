@@ -1,7 +1,6 @@
 // A line by its format, in which # stands for a figure in decimal, @ for one in hexadecimal, and $ for a kind's name.
+use crate::numerals::put_numeral;
 use crate::rows::row;
-use crate::text::put_decimal;
-use crate::text::put_hex;
 use crate::text::put_text;
 ghost use mathlib.Core.Path.{_≡_};
 ghost use lib.ListN.{getD};
@@ -14,6 +13,10 @@ const DECIMAL_SIGN: u8 = b'#';
 const HEX_SIGN: u8 = b'@';
 
 const NAME_SIGN: u8 = b'$';
+
+const DECIMAL: u64 = 10;
+
+const HEXADECIMAL: u64 = 16;
 
 // Other numbers have no name; the check gives none.
 fn put_kind(out: &mut [u8], at: usize, kind: u64) -> usize
@@ -40,10 +43,10 @@ fn put_piece(out: &mut [u8], at: usize, c: u8, figure: u64) -> usize
     ensures { λ r. ⌜ upTo (now (out .exit)) r ≡ put (piece c figure) (upTo (bytes out) at) ⌝ }
 {
     if c == DECIMAL_SIGN {
-        return put_decimal(out, at, figure);
+        return put_numeral(out, at, DECIMAL, figure);
     }
     if c == HEX_SIGN {
-        return put_hex(out, at, figure);
+        return put_numeral(out, at, HEXADECIMAL, figure);
     }
     if c == NAME_SIGN {
         return put_kind(out, at, figure);

@@ -1,7 +1,7 @@
--- A buffer that text is written into, piece after piece: what stands there, and up to where.
+-- A buffer that text is written into, piece after piece: what stands there, and up to where; and the bases of its numbers.
 use mathlib.Core.List.{List, [], _∷_}
 use mathlib.Core.Path.{_≡_}
-use Prim.Native.Nat.{ℕ, _+_}
+use Prim.Native.Nat.{ℕ, _+_, _≤_}
 use denote.Ref.{now}
 use lib.Dec.{leb}
 use lib.ListN.{length}
@@ -28,3 +28,8 @@ putAll (t ∷ ts) w = putAll ts (put t w)
 -- a lent buffer into which pieces were put from a place on, up to the place answered
 abbrev pub Puts : Lent → ℕ → ℕ → List (List ℕ) → Type 0
 Puts out at r pieces = upTo (now (out .exit)) r ≡ putAll pieces (upTo (now (out .entry)) at)
+
+-- the bases that numbers are written in: in a lower one some of 64 bits have more than `mostDigits` digits, and for a higher one
+-- there are too few glyphs
+abbrev pub Base : ℕ → Type 0
+Base base = (10 ≤ base) × (base ≤ 16)

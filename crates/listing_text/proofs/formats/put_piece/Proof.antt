@@ -1,26 +1,27 @@
+use native.Mathlib.Omega.{arith}
 use borrow.Author.Needs.{needs}
 use borrow.Author.Tests.{eq-eqb, ne-eqb}
 use Rattle.listing_text.specs.Lines.{piece}
 use Rattle.listing_text.proofs.Laws.{put-true, put-false}
+use Rattle.listing_text.proofs.Digits.{put-based}
 use Rattle.listing_text.proofs.formats.put_piece.Statement.{statement}
 use Rattle.listing_text.proofs.formats.put_piece.Tie as tie
 use Rattle.listing_text.proofs.formats.put_kind.Reads as put-kind-reads
-use Rattle.listing_text.proofs.text.put_decimal.Reads as put-decimal-reads
-use Rattle.listing_text.proofs.text.put_hex.Reads as put-hex-reads
+use Rattle.listing_text.proofs.numerals.put_numeral.Reads as put-numeral-reads
 use Rattle.listing_text.proofs.text.put_text.Reads as put-text-reads
 
-put-decimal-requires : tie.Need-put-decimal-requires
-put-decimal-requires c κs = search needs
+put-numeral-requires : tie.Need-put-numeral-requires
+put-numeral-requires c κs = search needs
 
 same-length : tie.Need-same-length
 same-length c = search needs
 
 returns : tie.Need-returns
 unfolding piece
-returns c = put-true _ _ _ _ _ (eq-eqb _ _ (c .before .before .before .before .if1 .taken)) (c .before .before .put-decimal .ensures)
+returns c = put-true _ _ _ _ _ (eq-eqb _ _ (c .before .before .before .before .if1 .taken)) (put-based _ _ _ _ _ (c .before .before .put-numeral .ensures) (omega arith))
 
-put-hex-requires : tie.Need-put-hex-requires
-put-hex-requires c κs = search needs
+put-numeral-requires-2 : tie.Need-put-numeral-requires-2
+put-numeral-requires-2 c κs = search needs
 
 same-length-2 : tie.Need-same-length-2
 same-length-2 c = search needs
@@ -29,7 +30,7 @@ returns-2 : tie.Need-returns-2
 unfolding piece
 returns-2 c =
     put-false _ _ _ _ _ (ne-eqb _ _ (c .before .before .before .before .before .if1 .left))
-    (put-true _ _ _ _ _ (eq-eqb _ _ (c .before .before .before .before .if2 .taken)) (c .before .before .put-hex .ensures))
+    (put-true _ _ _ _ _ (eq-eqb _ _ (c .before .before .before .before .if2 .taken)) (put-based _ _ _ _ _ (c .before .before .put-numeral2 .ensures) (omega arith)))
 
 put-kind-requires : tie.Need-put-kind-requires
 put-kind-requires c κs = search needs
@@ -64,10 +65,10 @@ pub put-piece-spec : {M : Type 1} → statement M
 put-piece-spec =
     tie.close
     (tie.spec
-    put-decimal-requires
+    put-numeral-requires
     same-length
     returns
-    put-hex-requires
+    put-numeral-requires-2
     same-length-2
     returns-2
     put-kind-requires
