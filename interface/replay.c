@@ -3,7 +3,7 @@
  * Standard input is one image after another: a line `NAME IMAGE-LENGTH MAP-LENGTH NUMBERS`, the image's bytes, so many numbers of
  * the answer (8 bytes each, in this machine's order), and the block map that the pass leaves of one whose byte i is i mod 251.
  *
- * Each image is run with two fills of the map and with arrays of numbers of four lengths. Numbers are compared as far as they
+ * Each image is run with two fills of the map and with arrays of numbers of five lengths. Numbers are compared as far as they
  * are both stated and given. Prints a line for each image.
  * Exit status: 0 all agree, 1 some differ, 2 nothing to run or input cut short. */
 #include <inttypes.h>
@@ -18,9 +18,11 @@ enum {
     GUARD_BYTE = 0xa5,
     BLOCK_COUNT = 40,      /* where block 0 states it, in 8 bytes */
     LAST_UNTOUCHED = 11,   /* up to this refusal the map is as handed in */
-    LONGER = SPACE_CHECK_FIGURES + 4,
-    SHORTER = SPACE_CHECK_OVERLAPS,
-    EARLIER = SPACE_CHECK_LATER_LOST, /* the numbers before any were appended */
+};
+
+/* All numbers, more and fewer, and the two lengths of earlier callers: those before the later kinds and before the claimants. */
+static const size_t lengths[] = {
+    SPACE_CHECK_FIGURES, SPACE_CHECK_FIGURES + 4, SPACE_CHECK_OVERLAPS, SPACE_CHECK_LATER_LOST, SPACE_CHECK_CLAIMANTS,
 };
 
 struct image {
@@ -112,6 +114,15 @@ end:
     return ok;
 }
 
+/* A call with each length, the two fills by turns. */
+static int agrees(const struct image *image)
+{
+    for (size_t i = 0; i < sizeof lengths / sizeof *lengths; i++)
+        if (!run(image, i % 2, lengths[i]))
+            return 0;
+    return 1;
+}
+
 static void get(void *to, size_t length)
 {
     if (fread(to, 1, length, stdin) != length) {
@@ -138,7 +149,7 @@ int main(void)
         memcpy(image.copy, image.bytes, image.length);
 
         images++;
-        if (run(&image, 0, SPACE_CHECK_FIGURES) && run(&image, 1, LONGER) && run(&image, 0, SHORTER) && run(&image, 1, EARLIER))
+        if (agrees(&image))
             printf("%s agrees\n", image.name);
         else
             differ++;

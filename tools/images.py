@@ -9,8 +9,8 @@ from definition import places
 
 PLACES = places()
 FIGURES = PLACES['FIGURES']
-# the numbers before any were appended
-EARLIER = PLACES['VERDICT'] + 1
+# as many numbers as answers had before each appending
+EARLIER = PLACES['LATER_LOST'], PLACES['CLAIMANTS']
 WORDS = {'define', 'image', 'made', 'base', 'length', 'at', 'map', 'level', 'rust', 'answer', 'left', 'chunks', 'chunks-left'}
 
 
@@ -78,7 +78,7 @@ def answered(fields, image):
     """An image with its answer and the map that is left."""
     answer = [number(n) for n in needed(fields, 'answer').split()]
     length, left = number(needed(fields, 'map')), bytes.fromhex(needed(fields, 'left'))
-    if len(answer) < FIGURES and len(answer) != EARLIER:
+    if len(answer) < FIGURES and len(answer) not in EARLIER:
         raise Fault(f'an answer of {len(answer)} numbers')
     if len(left) != length:
         raise Fault(f'{len(left)} bytes of a map of {length}')

@@ -3,7 +3,7 @@
 use std::path::Path;
 
 use serde_json::{json, Value};
-use space_check::{Kind, Lost, Overlap, Problem, Refusal, Report};
+use space_check::{Claimant, Kind, Lost, Overlap, Problem, Refusal, Report};
 
 use crate::checked::Checked;
 use crate::explain;
@@ -60,22 +60,23 @@ fn of_report(report: &Report) -> Value {
         "xid": report.xid,
         "pool_used": report.pool_used,
         "pool_unused": report.pool_unused,
-        "problems": log(report.problems.total, report.problems.first.iter().map(of_problem)),
+        "problems": { "total": report.problems.total, "first": all(&report.problems.first, of_problem) },
         "free": report.free,
         "wrong_chunks": report.wrong_chunks,
         "device_free": report.device_free,
-        "overlaps": log(report.overlaps.total, report.overlaps.first.iter().map(of_overlap)),
-        "lost": {
-            "total": report.lost_blocks(),
-            "kinds": report.lost.iter().map(of_lost).collect::<Vec<_>>(),
+        "overlaps": {
+            "total": report.overlaps.total,
+            "claimants": all(&report.claimants, of_claimant),
+            "first": all(&report.overlaps.first, of_overlap),
         },
+        "lost": { "total": report.lost_blocks(), "kinds": all(&report.lost, of_lost) },
         "leaked": report.leaked,
         "verdict": { "number": report.verdict.number(), "name": report.verdict.name() },
     })
 }
 
-fn log(total: u64, first: impl Iterator<Item = Value>) -> Value {
-    json!({ "total": total, "first": first.collect::<Vec<_>>() })
+fn all<T>(list: &[T], of_one: fn(&T) -> Value) -> Vec<Value> {
+    list.iter().map(of_one).collect()
 }
 
 fn of_problem(problem: &Problem) -> Value {
@@ -88,6 +89,10 @@ fn of_overlap(overlap: &Overlap) -> Value {
 
 fn of_kind(kind: Kind) -> Value {
     json!({ "number": kind.number(), "name": kind.name() })
+}
+
+fn of_claimant(claimant: &Claimant) -> Value {
+    json!({ "number": claimant.kind.number(), "name": claimant.kind.name(), "count": claimant.count })
 }
 
 fn of_lost(lost: &Lost) -> Value {

@@ -44,6 +44,17 @@ def lost_and_leaked():
     return image
 
 
+def claimed_twice():
+    """The sample with areas over each other: by its superblock, block 2, the descriptor area is blocks 0 to 2, with the map at
+    place 1, and the data area 1 to 5."""
+    image = sample()
+    superblock = image[2 * BLOCK:3 * BLOCK]
+    struct.pack_into('<IIQQ', superblock, 104, 3, 5, 0, 1)
+    struct.pack_into('<I', superblock, 136, 1)
+    image[2 * BLOCK:3 * BLOCK] = seal(superblock)
+    return image
+
+
 # what numbers and names must be, from what is proved and not from the code under test
 KINDS = definition.kinds()
 PROBLEMS = definition.problems()
@@ -68,6 +79,11 @@ def problem_blocks(v):
 
 def overlap_blocks(v):
     return v['answer'][PLACES['OVERLAP']:PLACES['LOST']:3][:figure(v, 'OVERLAPS')]
+
+
+def claimants(v):
+    """How often each kind came second, by its number, in an image's answer."""
+    return dict(zip(KINDS, v['answer'][PLACES['CLAIMANTS']:FIGURES]))
 
 
 def known(path=os.path.join(ROOT, 'compare', 'answers', 'list.txt')):

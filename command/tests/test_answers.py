@@ -4,8 +4,9 @@ import struct
 import subprocess
 import unittest
 
-from support import (BASE_KINDS, CONSISTENT, FIGURES, INCONSISTENT, KINDS, PLACES, PROBLEMS, REFUSALS, REFUSED, ROOT, SAMPLE,
-                     WITHDRAWN, CommandTest, figure, known, lost_and_leaked, numbered, page_rows)
+from support import (BASE_KINDS, CONSISTENT, FIGURES, INCONSISTENT, KINDS, LOGGED, OPERATORS_PAGE, PLACES, PROBLEMS, REFUSALS,
+                     REFUSED, ROOT, SAMPLE, WITHDRAWN, CommandTest, claimants, claimed_twice, figure, known, lost_and_leaked,
+                     numbered, page_rows)
 
 LISTING = os.path.join(ROOT, 'target', 'bin', 'listing')
 
@@ -41,6 +42,7 @@ def figures(answer):
         put(f'{row}LOST', *(kind['count'] for kind in some))
         put(f'{row}FIRST_LOST', *(kind['first'] or 0 for kind in some))
     put('VERDICT', r['verdict']['number'])
+    put('CLAIMANTS', *(kind['count'] for kind in r['overlaps']['claimants']))
     return found
 
 
@@ -57,6 +59,8 @@ def lines(answer):
              f"bitmaps    {r['free']} blocks free; chunks with a wrong free count: {r['wrong_chunks']}; device free count "
              f"{r['device_free']} ({matches})",
              f"overlaps   {r['overlaps']['total']} blocks claimed by two different things",
+             *(f"  {kind['name']}: {kind['count']}"
+               for kind in sorted(r['overlaps']['claimants'], key=lambda kind: kind['number']) if kind['count']),
              *(f"  block {hex(o['block'])}: {o['owner']['name']} and {o['claimant']['name']}" for o in r['overlaps']['first']),
              f"in use but marked free: {r['lost']['total']} blocks",
              *(f"  {kind['name']}: {kind['count']} (first at {hex(kind['first'])})"
@@ -71,16 +75,19 @@ class Answers(CommandTest):
     def names_agree(self, answer):
         """A number and the name beside it."""
         report = answer['report']
-        self.assertEqual([kind['number'] for kind in report['lost']['kinds']], list(KINDS))
-        kinds = report['lost']['kinds'] + [o[who] for o in report['overlaps']['first'] for who in ('owner', 'claimant')]
-        for kind in kinds:
+        lost, overlaps = report['lost'], report['overlaps']
+        for kinds in lost['kinds'], overlaps['claimants']:
+            self.assertEqual([kind['number'] for kind in kinds], list(KINDS))
+        named = [o[who] for o in overlaps['first'] for who in ('owner', 'claimant')]
+        for kind in lost['kinds'] + overlaps['claimants'] + named:
             self.assertEqual(kind['name'], KINDS[kind['number']])
         for problem in report['problems']['first']:
             self.assertEqual(problem['name'], PROBLEM_ROWS[problem['number']][1])
         number, status = REPORTED[answer['answer']]
         self.assertEqual((report['verdict']['number'], answer['exit_status']), (number, status))
         self.assertEqual(report['verdict']['name'], answer['answer'])
-        self.assertEqual(report['lost']['total'], sum(kind['count'] for kind in report['lost']['kinds']))
+        for total, kinds in (lost['total'], lost['kinds']), (overlaps['total'], overlaps['claimants']):
+            self.assertEqual(total, sum(kind['count'] for kind in kinds))
 
     def agrees(self, v):
         image = self.write('disk.img', v['image'])
@@ -118,6 +125,24 @@ class Answers(CommandTest):
         rows = page_rows(r'(\d+) \| (.*?)')
         self.assertEqual(rows[:len(owners)], owners)
         self.assertEqual([int(number) for number, _ in rows[len(owners):]], sorted({*REFUSALS.values(), *WITHDRAWN}))
+        # the first kind has no row as a claimant: nothing is owned before it
+        self.assertEqual(page_rows(r'(\d+), (.*?)'), owners[1:])
+
+    def test_claimants_of_the_list(self):
+        """In every answer they add up to the total, and the claims that it names are among them."""
+        met = set()
+        for v in known():
+            counts, total = claimants(v), figure(v, 'OVERLAPS')
+            named = v['answer'][PLACES['OVERLAP'] + 2:PLACES['LOST']:3][:total]
+            with self.subTest(v['name']):
+                self.assertEqual((len(v['answer']), list(counts)), (FIGURES, list(KINDS)))
+                self.assertEqual(sum(counts.values()), total)
+                for kind, count in counts.items():
+                    self.assertGreaterEqual(count, named.count(kind))
+                    self.assertTrue(total > LOGGED or count == named.count(kind))
+            met |= {kind for kind, count in counts.items() if count}
+        # the first kind never comes second
+        self.assertEqual(met, {*KINDS} - {1})
 
     def proved_lines(self, image):
         """What the program crates/listing prints, whose text is proved."""
@@ -157,6 +182,31 @@ class Answers(CommandTest):
         self.assertEqual((status, err), (INCONSISTENT, ''))
         self.assertEqual(out.splitlines()[4:], ['in use but marked free: 1 blocks', '  object map node: 1 (first at 0x9)',
                                                 'allocated but unused (leaked): 1 blocks', 'result     inconsistent'])
+
+    def test_listing_of_blocks_claimed_twice(self):
+        """The lines by claimant are in the order of the kinds' numbers; by name the data area would come first."""
+        image = self.write('stdin', claimed_twice())
+        status, out, err = self.run_command(image)
+        self.assertEqual((status, err), (INCONSISTENT, ''))
+        overlaps = [
+            'overlaps   4 blocks claimed by two different things',
+            '  checkpoint descriptor area: 1',
+            '  checkpoint data area: 2',
+            '  internal-pool bitmap ring: 1',
+            '  block 0x0: container superblock and checkpoint descriptor area',
+            '  block 0x1: checkpoint descriptor area and checkpoint data area',
+            '  block 0x2: checkpoint descriptor area and checkpoint data area',
+            '  block 0x5: checkpoint data area and internal-pool bitmap ring']
+        self.assertEqual(out.splitlines()[3:], [*overlaps, 'in use but marked free: 0 blocks',
+                                                'allocated but unused (leaked): 0 blocks', 'result     inconsistent'])
+        self.assertEqual(self.proved_lines(image), out)
+        self.assertIn(''.join(f'    {line}\n' for line in overlaps), OPERATORS_PAGE)
+        told = self.json_of(image)['report']['overlaps']
+        self.assertEqual(list(told), ['total', 'claimants', 'first'])
+        self.assertEqual([kind for kind in told['claimants'] if kind['count']],
+                         [{'number': 2, 'name': 'checkpoint descriptor area', 'count': 1},
+                          {'number': 3, 'name': 'checkpoint data area', 'count': 2},
+                          {'number': 5, 'name': 'internal-pool bitmap ring', 'count': 1}])
 
 
 if __name__ == '__main__':

@@ -23,6 +23,9 @@ pub struct Lost {
     pub first: u64,
 }
 
+/// Something for each kind, by the kinds' numbers from 1.
+pub type ByKind<T> = [T; Kind::ALL.len()];
+
 /// Kinds and problems are their numbers, 0 in places that nothing fills.
 #[derive(Clone, Debug, Default, PartialEq, Eq)]
 pub struct Report {
@@ -34,10 +37,10 @@ pub struct Report {
     pub free: u64,
     pub wrong_chunks: u64,
     pub device_free: u64,
-    pub overlaps: u64,
+    /// Overlaps in which the kind came second.
+    pub claimants: ByKind<u64>,
     pub first_overlaps: [Overlap; LOGGED],
-    /// By the kinds' numbers from 1.
-    pub lost: [Lost; Kind::ALL.len()],
+    pub lost: ByKind<Lost>,
     pub leaked: u64,
     pub verdict: u64,
 }
@@ -49,6 +52,11 @@ pub enum Answer {
 }
 
 impl Report {
+    /// Overlaps in all.
+    pub fn overlaps(&self) -> u64 {
+        self.claimants.iter().sum()
+    }
+
     pub fn lost_blocks(&self) -> u64 {
         self.lost.iter().map(|l| l.count).sum()
     }
@@ -65,9 +73,12 @@ impl Report {
         numbers[places::FREE] = self.free;
         numbers[places::WRONG_CHUNKS] = self.wrong_chunks;
         numbers[places::DEVICE_FREE] = self.device_free;
-        numbers[places::OVERLAPS] = self.overlaps;
+        numbers[places::OVERLAPS] = self.overlaps();
         for (at, o) in (places::OVERLAP..).step_by(OVERLAP_NUMBERS).zip(&self.first_overlaps) {
             numbers[at..][..OVERLAP_NUMBERS].copy_from_slice(&[o.block, o.owner, o.claimant]);
+        }
+        for (&kind, &count) in Kind::ALL.iter().zip(&self.claimants) {
+            numbers[places::claimant(kind)] = count;
         }
         for (&kind, lost) in Kind::ALL.iter().zip(&self.lost) {
             numbers[places::lost(kind)] = lost.count;
@@ -101,7 +112,9 @@ mod tests {
     #[test]
     fn the_numbers_can_be_read_back() {
         let mut report = Report { verdict: Verdict::Inconsistent.number(), ..Report::default() };
-        (report.xid, report.problems, report.overlaps) = (7, 1, 11);
+        (report.xid, report.problems) = (7, 1);
+        report.claimants[Kind::FreeQueue.number() as usize - 1] = 10;
+        report.claimants[Kind::DescriptorArea.number() as usize - 1] = 1;
         report.first_problems[0] = Problem { kind: ProblemKind::BitmapUsed.number(), block: 6 };
         report.first_overlaps = [Overlap { block: 5, owner: 2, claimant: 9 }; LOGGED];
         report.lost[Kind::SnapshotNode.number() as usize - 1] = Lost { count: 3, first: 8 };
@@ -110,6 +123,8 @@ mod tests {
         let read = Read::of_figures(&numbers).expect("a report");
         assert_eq!(read.problems, Log { total: 1, first: vec![Named { kind: ProblemKind::BitmapUsed, block: 6 }] });
         assert_eq!((read.overlaps.total, read.overlaps.first.len(), read.lost_blocks()), (11, LOGGED, 3));
+        let claimants: Vec<_> = read.claimants.iter().filter(|c| c.count != 0).map(|c| (c.kind, c.count)).collect();
+        assert_eq!(claimants, [(Kind::DescriptorArea, 1), (Kind::FreeQueue, 10)]);
         assert_eq!((read.xid, read.free, read.leaked, read.verdict), (7, 4, 10, Verdict::Inconsistent));
         let last = read.lost.last().expect("a kind");
         assert_eq!((last.kind, last.first), (Kind::SnapshotNode, Some(8)));

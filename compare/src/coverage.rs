@@ -34,6 +34,11 @@ pub enum Row {
 
 const MANY_PROBLEMS: &str = "more than ten problems";
 const MANY_OVERLAPS: &str = "more than ten overlaps";
+// The kinds that came second, which a report lists in the order of their numbers.
+const CLAIMANTS: &str = "overlaps of several claimants";
+const CLAIMANTS_BY_NAME: &str = "claimants whose order by name is another";
+const CLAIMANTS_AS_MET: &str = "claimants whose order of claims is another";
+const CLAIMANT_LATE: &str = "a claimant beyond the tenth overlap alone";
 const UNUSED: &str = "pool blocks marked but unused";
 const WRONG_COUNTS: &str = "chunks with a wrong count";
 const NO_MATCH: &str = "device free count doesn't match";
@@ -78,9 +83,13 @@ const NEAR_22_VOLUME_NODES: &str = "near 22: a report after a volume's walk of a
 const NEAR_22_VOLUME_LEVELS: &str = "near 22: a report after a volume's walk of 33 levels";
 const DAMAGES: &str = "several damages";
 
-const FINDINGS: [&str; 40] = [
+const FINDINGS: [&str; 44] = [
     MANY_PROBLEMS,
     MANY_OVERLAPS,
+    CLAIMANTS,
+    CLAIMANTS_BY_NAME,
+    CLAIMANTS_AS_MET,
+    CLAIMANT_LATE,
     UNUSED,
     WRONG_COUNTS,
     NO_MATCH,
@@ -291,6 +300,7 @@ fn report_rows(report: &Report, rows: &mut BTreeSet<Row>) {
     rows.extend(report.first_problems.iter().filter_map(|p| ProblemKind::from_number(p.kind)).map(Row::Problem));
     rows.extend(report.first_overlaps.iter().filter_map(|o| Kind::from_number(o.owner)).map(Row::Owner));
     rows.extend(report.first_overlaps.iter().filter_map(|o| Kind::from_number(o.claimant)).map(Row::Claimant));
+    rows.extend(claimant_rows(report));
     rows.extend(
         Kind::ALL.iter().zip(&report.lost).filter(|(_, lost)| lost.count != 0).map(|(&kind, _)| Row::Lost(kind)),
     );
@@ -299,12 +309,27 @@ fn report_rows(report: &Report, rows: &mut BTreeSet<Row>) {
     rows.extend(held(&[
         (ADDRESS_AFTER, after),
         (MANY_PROBLEMS, report.problems > LOGGED as u64),
-        (MANY_OVERLAPS, report.overlaps > LOGGED as u64),
+        (MANY_OVERLAPS, report.overlaps() > LOGGED as u64),
         (UNUSED, report.pool_unused > 0),
         (WRONG_COUNTS, report.wrong_chunks > 0),
         (NO_MATCH, report.free != report.device_free),
         (LEAKED, report.leaked > 0),
     ]));
+}
+
+/// What the kinds that came second are together.
+fn claimant_rows(report: &Report) -> Vec<Row> {
+    let counted = Kind::ALL.iter().zip(&report.claimants).filter(|(_, &count)| count != 0);
+    let kinds: Vec<Kind> = counted.map(|(&kind, _)| kind).collect();
+    let is_named = |kind: &Kind| report.first_overlaps.iter().any(|overlap| overlap.claimant == kind.number());
+    let of_volumes = kinds.contains(&Kind::ExtentNode) || kinds.contains(&Kind::SnapshotNode);
+    held(&[
+        (CLAIMANTS, kinds.len() > 1),
+        (CLAIMANTS_BY_NAME, !kinds.is_sorted_by_key(|kind| kind.name())),
+        // The queue claims after the volumes; a volume's 6 or 7 after an 8, which isn't counted here, shows it too.
+        (CLAIMANTS_AS_MET, kinds.contains(&Kind::FreeQueue) && of_volumes),
+        (CLAIMANT_LATE, !kinds.iter().all(is_named)),
+    ])
 }
 
 /// The findings whose test holds.

@@ -1,15 +1,16 @@
 //! `compare listing`: what a command prints about images, held against the lines of the original.
 //!
 //! The command is called with the path of an image. Where the original is the reference and reports, the command must
-//! print its lines, byte for byte, but for what the contract changes: the location is that path, the leaked blocks have
-//! no size for people, and an inconsistent container gets a last line. Where the model refuses, the command must print
-//! that number alone. An image on which original and model already part counts as one that differs.
+//! print its lines, byte for byte, but for what the contract changes: the location is that path, the overlaps have a line
+//! for each kind that came second, as often as the original counted it, the leaked blocks have no size for people, and
+//! an inconsistent container gets a last line. Where the model refuses, the command must print that number alone. An
+//! image on which original and model already part counts as one that differs.
 
 use std::path::Path;
 use std::process::{Command, ExitStatus, Output};
 use std::{env, fmt, fs, io, process};
 
-use space_check::{places, Refusal, Verdict};
+use space_check::{places, Kind, Refusal, Verdict};
 
 use crate::answer::Answer;
 use crate::judge::{judge, Ask, Judgement};
@@ -117,20 +118,31 @@ fn expected(judgement: &Judgement, location: &str) -> Option<Expected> {
         (Answer::Refused(refusal), _) => {
             Some(Expected { text: format!("refused {}\n", refusal.number()), status: REFUSED_STATUS })
         }
-        (_, Some(Reply::Answer(numbers, _, lines))) => {
-            Some(changed(lines, numbers[places::VERDICT] == Verdict::Inconsistent.number(), location))
-        }
+        (_, Some(Reply::Answer(numbers, _, lines))) => Some(changed(lines, numbers, location)),
         _ => None,
     }
 }
 
-/// The original's lines with the contract's changes.
-fn changed(lines: &[String], inconsistent: bool, location: &str) -> Expected {
-    let mut text: String = lines.iter().map(|line| changed_line(line, location) + "\n").collect();
+/// The original's lines with the contract's changes; the numbers are the original's too.
+fn changed(lines: &[String], numbers: &[u64], location: &str) -> Expected {
+    let mut text = String::new();
+    for line in lines {
+        text.push_str(&(changed_line(line, location) + "\n"));
+        if line.starts_with("overlaps") {
+            text.push_str(&claimants(numbers));
+        }
+    }
+    let inconsistent = numbers[places::VERDICT] == Verdict::Inconsistent.number();
     if inconsistent {
         text.push_str("result     inconsistent\n");
     }
     Expected { text, status: if inconsistent { INCONSISTENT_STATUS } else { CONSISTENT_STATUS } }
+}
+
+/// The lines of the kinds that came second, in the order of their numbers.
+fn claimants(numbers: &[u64]) -> String {
+    let counts = Kind::ALL.iter().map(|&kind| (kind, numbers[places::claimant(kind)]));
+    counts.filter(|&(_, count)| count != 0).map(|(kind, count)| format!("  {kind}: {count}\n")).collect()
 }
 
 fn changed_line(line: &str, location: &str) -> String {
@@ -177,15 +189,34 @@ fn wrong_status(status: ExitStatus, expected: i32) -> Option<String> {
 #[cfg(test)]
 mod tests {
     use super::*;
+    use crate::answer::Report;
+
+    fn numbers(verdict: Verdict, claimants: &[(Kind, u64)]) -> Vec<u64> {
+        let mut report = Report { verdict: verdict.number(), ..Report::default() };
+        claimants.iter().for_each(|&(kind, count)| report.claimants[kind.number() as usize - 1] = count);
+        Answer::Reported(Box::new(report)).numbers()
+    }
 
     #[test]
     fn the_location_the_size_and_the_end_are_changed() {
         let lines = ["space check  image  xid 7", "overlaps ()", "allocated but unused (leaked): 0 blocks ()"];
         let text = "space check  a/b  xid 7\noverlaps ()\nallocated but unused (leaked): 0 blocks\n";
         let lines = lines.map(String::from);
-        assert_eq!(changed(&lines, false, "a/b"), Expected { text: text.into(), status: 0 });
+        let numbers = |verdict| numbers(verdict, &[]);
+        assert_eq!(changed(&lines, &numbers(Verdict::Consistent), "a/b"), Expected { text: text.into(), status: 0 });
         let text = format!("{text}result     inconsistent\n");
-        assert_eq!(changed(&lines, true, "a/b"), Expected { text, status: 1 });
+        assert_eq!(changed(&lines, &numbers(Verdict::Inconsistent), "a/b"), Expected { text, status: 1 });
+    }
+
+    #[test]
+    fn kinds_that_came_second_follow_the_overlaps_by_their_numbers() {
+        let lines = ["overlaps   14 blocks", "  block 0x1: internal pool and checkpoint data area"].map(String::from);
+        let claimants = [(Kind::SnapshotNode, 3), (Kind::DataArea, 1), (Kind::FreeQueue, 8), (Kind::DescriptorArea, 2)];
+        let expected = changed(&lines, &numbers(Verdict::Inconsistent, &claimants), "a");
+        let text = "overlaps   14 blocks\n  checkpoint descriptor area: 2\n  checkpoint data area: 1\n  \
+                    free queue (pending release): 8\n  snapshot tree node: 3\n  block 0x1: internal pool and \
+                    checkpoint data area\nresult     inconsistent\n";
+        assert_eq!(expected.text, text);
     }
 
     #[test]

@@ -166,7 +166,7 @@ fn compare(cells: &[u8], report: &mut Report) {
             lost.count += 1;
         }
     }
-    let sound = report.lost_blocks() == 0 && report.overlaps == 0 && report.problems == 0;
+    let sound = report.lost_blocks() == 0 && report.overlaps() == 0 && report.problems == 0;
     report.verdict = if sound { Verdict::Consistent } else { Verdict::Inconsistent }.number();
 }
 

@@ -10,7 +10,7 @@ use winapfs::dump::space_check_container;
 pub use winapfs::Opening;
 use winapfs::{open_by, take_caught, Caught, Cells};
 
-use crate::answer::{Lost, Overlap, Problem, Report};
+use crate::answer::{ByKind, Lost, Overlap, Problem, Report};
 
 /// How a run of the original ended.
 #[derive(Debug, PartialEq, Eq)]
@@ -24,8 +24,8 @@ pub enum Ended {
     Unreadable(String),
 }
 
-/// The original has so many of an answer's numbers: all up to the verdict, and those of the kinds behind it.
-pub const NUMBERS: usize = places::LATER_FIRST_LOST + (places::LATER_FIRST_LOST - places::LATER_LOST);
+/// The original has so many of an answer's numbers: all up to the overlaps by claimant.
+pub const NUMBERS: usize = places::CLAIMANTS + Kind::ALL.len();
 
 /// Where the container is, as the original is told and prints it.
 pub const LOCATION: &str = "image";
@@ -55,8 +55,8 @@ pub fn run(device: Box<dyn BlockDevice>, opening: Opening) -> Ended {
         Ok(Err(message)) => return Ended::Error(message),
         Err(cause) => return Ended::Panic(message_of(cause.as_ref())),
     };
-    let Caught { lines, cells } = take_caught();
-    let report = Lines::new(&lines).report(verdict);
+    let Caught { lines, cells, claimants } = take_caught();
+    let report = counts(&claimants).and_then(|claimants| Lines::new(&lines).report(verdict, claimants));
     let map = cells.ok_or("no block map was handed out".into()).and_then(|cells| block_map(&cells));
     match (report, map) {
         (Ok(report), Ok(map)) => Ended::Report(Box::new(report), map, lines),
@@ -83,6 +83,15 @@ fn block_map(cells: &Cells) -> Read<Vec<u8>> {
         }
     }
     Ok(map)
+}
+
+/// The overlaps in which each kind came second.
+fn counts(claimants: &[(&str, u64)]) -> Read<ByKind<u64>> {
+    let mut counts = ByKind::default();
+    for (name, count) in claimants {
+        counts[kind(name)?.number() as usize - 1] += count;
+    }
+    Ok(counts)
 }
 
 /// The number of a kind as the map has it: the empty name, which the original keeps first, stands for no owner.
@@ -115,18 +124,19 @@ impl<'a> Lines<'a> {
         Self { lines, next: 0 }
     }
 
-    fn report(mut self, verdict: Verdict) -> Read<Report> {
+    /// Which kinds came second is counted and not printed.
+    fn report(mut self, verdict: Verdict, claimants: ByKind<u64>) -> Read<Report> {
         let [xid] = self.numbers(&format!("space check  {LOCATION}  xid {{}}"))?;
         let [pool_used, pool_unused, problems] =
             self.numbers("internal pool  {} blocks in use, {} marked but unused, {} problems")?;
-        let mut report = Report { xid, pool_used, pool_unused, problems, ..Report::default() };
+        let mut report = Report { xid, pool_used, pool_unused, problems, claimants, ..Report::default() };
         report.verdict = verdict.number();
         for place in listed(&mut report.first_problems, problems) {
             *place = self.problem()?;
         }
         self.bitmaps(&mut report)?;
-        [report.overlaps] = self.numbers("overlaps   {} blocks claimed by two different things")?;
-        for place in listed(&mut report.first_overlaps, report.overlaps) {
+        let overlaps = self.overlaps(&claimants)?;
+        for place in listed(&mut report.first_overlaps, overlaps) {
             *place = self.overlap()?;
         }
         self.lost(&mut report)?;
@@ -157,6 +167,15 @@ impl<'a> Lines<'a> {
         let found = PROBLEM_LINES.iter().find_map(|(kind, text)| Some((kind, matched(text, line)?)));
         let (kind, parts) = found.ok_or_else(|| format!("no problem line: {line}"))?;
         Ok(Problem { kind: kind.number(), block: hex(parts[0])? })
+    }
+
+    /// The printed total, which the counts by claimant add up to.
+    fn overlaps(&mut self, claimants: &[u64]) -> Read<u64> {
+        let [total] = self.numbers("overlaps   {} blocks claimed by two different things")?;
+        match claimants.iter().sum::<u64>() {
+            sum if sum == total => Ok(total),
+            sum => Err(format!("{total} overlaps, and {sum} by claimant")),
+        }
     }
 
     fn overlap(&mut self) -> Read<Overlap> {
@@ -233,6 +252,11 @@ fn kind(name: &str) -> Read<Kind> {
 #[cfg(test)]
 mod tests {
     use super::*;
+    use crate::answer::Answer;
+    use crate::fill::Fill;
+    use crate::judge::is_due;
+    use crate::model::check;
+    use crate::seeds::Builder;
 
     #[test]
     fn patterns_take_whole_lines() {
@@ -251,6 +275,34 @@ mod tests {
         assert_eq!(block_map(&cells(vec!["", "internal-pool bitmap ring"])), Ok(vec![5 | Cell::MARKED]));
         assert_eq!(block_map(&cells(vec!["", "snapshot tree node"])), Ok(vec![11 | Cell::MARKED]));
         assert!(block_map(&cells(vec!["", "file data"])).is_err());
+    }
+
+    #[test]
+    fn every_claimant_is_known_and_counted_once() {
+        let counted = counts(&[("snapshot tree node", 2), ("object map", 1)]).expect("known kinds");
+        assert_eq!(counted, [0, 0, 0, 0, 0, 1, 0, 0, 0, 0, 2]);
+        assert_eq!(counts(&[("object map", 1), ("file data", 1)]), Err("no kind: file data".into()));
+        let line = ["overlaps   4 blocks claimed by two different things".to_string()];
+        assert_eq!(Lines::new(&line).overlaps(&counted), Err("4 overlaps, and 3 by claimant".into()));
+    }
+
+    #[test]
+    fn each_run_counts_from_the_start() {
+        let mut builder = Builder::default();
+        let mut overlapping = (0..).map(|seed| builder.image(seed)).filter_map(|image| {
+            let pass = check(&image.bytes, &mut Fill::Listed.map(image.map_length));
+            match &pass.answer {
+                Answer::Reported(report) if is_due(&pass) && report.overlaps() > 0 => {
+                    Some((image.bytes, report.claimants))
+                }
+                _ => None,
+            }
+        });
+        let (image, claimants) = overlapping.next().expect("an image with overlaps");
+        for _ in 0..2 {
+            let ended = run(Box::new(image.clone()), Opening::Succeeds);
+            assert!(matches!(ended, Ended::Report(report, ..) if report.claimants == claimants));
+        }
     }
 
     #[test]

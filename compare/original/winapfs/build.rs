@@ -6,6 +6,8 @@ mod assemble;
 use assemble::{assemble, Cut};
 
 const FILE: &str = "dump.rs";
+const COUNTED: &str = "self.overlap_count += 1;";
+const COUNT_CLAIMANT: &str = "self.overlap_count += 1;\n                crate::count_claimant(k);";
 const HAND_OUT: &str = "crate::hand_out(&marked, &claims.owner, &claims.kinds, &ip_used);\n    println!(\"overlaps ";
 
 fn main() {
@@ -30,7 +32,9 @@ fn main() {
             upto: "    }\n    // Blocks waiting in the main",
             instead: "",
         },
-        // One line more: what the block map is made of, handed out after the last claim.
+        // One line more where an overlap is counted: the kind that came second is told.
+        Cut { file: FILE, from: COUNTED, upto: "", instead: COUNT_CLAIMANT },
+        // And one: what the block map is made of, handed out after the last claim.
         Cut { file: FILE, from: "println!(\"overlaps ", upto: "", instead: HAND_OUT },
     ];
     assemble("winapfs", &[FILE], &cuts);

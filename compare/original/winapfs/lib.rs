@@ -18,6 +18,8 @@ include!(concat!(env!("OUT_DIR"), "/modules.rs"));
 pub struct Caught {
     pub lines: Vec<String>,
     pub cells: Option<Cells>,
+    /// The overlaps that it counted, by the name of the kind that came second.
+    pub claimants: Vec<(&'static str, u64)>,
 }
 
 /// What the block map is made of, as the original holds it.
@@ -44,7 +46,7 @@ thread_local! {
     static CELLS_WANTED: Cell<bool> = const { Cell::new(true) };
 }
 
-/// Whether this thread's runs hand out their cells, as they do at first: a run that is timed shouldn't copy them.
+/// Whether this thread's runs hand out their cells and claimants, as they do at first: a run that is timed shouldn't.
 pub fn want_cells(wanted: bool) {
     CELLS_WANTED.set(wanted);
 }
@@ -68,6 +70,17 @@ pub fn take_caught() -> Caught {
 
 fn keep_line(line: String) {
     CAUGHT.with_borrow_mut(|c| c.lines.push(line));
+}
+
+/// Called where an overlap is counted.
+fn count_claimant(kind: &'static str) {
+    if !CELLS_WANTED.get() {
+        return;
+    }
+    CAUGHT.with_borrow_mut(|c| match c.claimants.iter_mut().find(|(name, _)| *name == kind) {
+        Some((_, count)) => *count += 1,
+        None => c.claimants.push((kind, 1)),
+    });
 }
 
 fn hand_out(marked: &[bool], owner: &[u8], kinds: &[&'static str], pool_used: &HashSet<u64>) {

@@ -45,11 +45,12 @@ impl Claims<'_> {
         if owner == 0 {
             self.cells[block as usize] |= claimant;
         } else if owner != claimant {
-            let overlap = Overlap { block, owner: owner.into(), claimant: claimant.into() };
-            if self.report.overlaps < LOGGED as u64 {
-                self.report.first_overlaps[self.report.overlaps as usize] = overlap;
+            let before = self.report.overlaps();
+            if before < LOGGED as u64 {
+                let overlap = Overlap { block, owner: owner.into(), claimant: claimant.into() };
+                self.report.first_overlaps[before as usize] = overlap;
             }
-            self.report.overlaps += 1;
+            self.report.claimants[usize::from(claimant) - 1] += 1;
         }
     }
 
@@ -112,10 +113,11 @@ mod tests {
     fn the_first_owner_keeps_a_block() {
         let (mut cells, mut report, mut notes) = ([0; 1], Report::default(), Notes::default());
         let mut claims = Claims { cells: &mut cells, report: &mut report, notes: &mut notes };
-        for kind in [Kind::DataArea, Kind::DataArea, Kind::InternalPool, Kind::PoolBitmapRing] {
+        for kind in [Kind::DataArea, Kind::DataArea, Kind::InternalPool, Kind::PoolBitmapRing, Kind::InternalPool] {
             claims.claim(0, 1, kind).unwrap();
         }
-        assert_eq!((report.overlaps, cells[0]), (2, Kind::DataArea.number() as u8));
+        assert_eq!((report.overlaps(), cells[0]), (3, Kind::DataArea.number() as u8));
+        assert_eq!(report.claimants[..5], [0, 0, 0, 2, 1]);
     }
 
     #[test]

@@ -11,7 +11,7 @@ use Rattle.blocks.specs.Reads.{Outcome, given, refused, run, noBlocks, _>>=_, n
 use Rattle.blocks.specs.Blocks.{present, field, sum}
 use Rattle.blocks.specs.Refusals.{numberOf}
 use Rattle.block_map.specs.BlockMap.{Marked, update, ownerOf, countIn}
-use Rattle.report.specs.Report.{noOverlaps, note, addOverlap}
+use Rattle.report.specs.Report.{noOverlaps, sumOf, overlapTotal, countClaimant, note, addOverlap}
 use Rattle.report.specs.declared.OverlapLog.{OverlapLog}
 use Rattle.totals.specs.Totals.{unowned}
 use Rattle.claims.specs.Claims.{internalPool, claimBlock, claimFrom, claim, mappedAddress, claimMapped, claimMapping}
@@ -35,7 +35,7 @@ owns keyBytes valueBytes flags address = figure (λ s. countIn (λ x. not (eqb (
 
 -- the overlaps of a whole mapping, where the pool owns every block
 abbrev overlaps : ℕ → ℕ
-overlaps flags = figure (λ s. s .figures .total) (claimed internalPool 16 16 flags 4)
+overlaps flags = figure (λ s. overlapTotal (s .figures)) (claimed internalPool 16 16 flags 4)
 
 table : List Bool
 table =
@@ -57,5 +57,5 @@ table =
     ∷ []
 
 samples : T (every table)
-unfolding table le num fieldAt bytesOf run _>>=_ need present field sum update countIn noOverlaps note addOverlap claimBlock claimFrom claim mappedAddress claimMapped claimMapping
+unfolding table le num fieldAt bytesOf run _>>=_ need present field sum update countIn noOverlaps sumOf countClaimant note addOverlap claimBlock claimFrom claim mappedAddress claimMapped claimMapping
 samples = tt

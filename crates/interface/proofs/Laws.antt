@@ -7,10 +7,10 @@ use native.Mathlib.Numerals.{add-one}
 use native.Mathlib.Omega.{arith}
 use lib.ListN.{length, getD, set, take, drop, length-append, length-set, length-map, drop-of-length-le}
 use lib.Seq.{slice, slice-cons, slice-empty, length-slice, drop-cons, take-nil}
-use Rattle.report.specs.Report.{endingNumber}
+use Rattle.report.specs.Report.{overlapFigure, kinds, endingNumber}
 use Rattle.report.specs.declared.Answer.{Answer}
 use Rattle.report.specs.declared.Report.{Report}
-use Rattle.interface.specs.Places.{refusalAt, problemAt, freeAt, overlapsAt, overlapAt, lostAt, leakedAt, answerFigures}
+use Rattle.interface.specs.Places.{refusalAt, problemAt, freeAt, overlapsAt, overlapAt, lostAt, leakedAt, claimantsAt, answerFigures}
 use Rattle.interface.specs.Figures.{problemFigures, overlapFigures, lostFigures, auditFigures, baseKinds, claimFigures, baseFigures, laterFigures, figuresOf, written}
 use Rattle.interface.specs.contracts.Stored.{stored, Stores, laterAt}
 
@@ -121,19 +121,24 @@ unfolding auditFigures flatten
 audit-stored a l₀ l₁ l₂ l₃ n number head problems counted =
     rw (← number) (stores-then _ _ _ _ _ _ _ _ head (stores-then _ _ _ _ _ _ _ _ problems counted))
 
-pub claims-stored : (r : Report) (l₀ l₁ l₂ l₃ l₄ : List ℕ) → l₁ ≡ set l₀ overlapsAt (r .overlaps .total)
+pub claims-stored : (r : Report) (l₀ l₁ l₂ l₃ l₄ : List ℕ) (n : ℕ) → n ≡ overlapFigure (r .overlaps) → l₁ ≡ set l₀ overlapsAt n
     → Stores l₁ l₂ overlapAt lostAt (flatMap overlapFigures (r .overlaps .first))
     → Stores l₂ l₃ lostAt leakedAt (lostFigures (slice 0 baseKinds (r .lost)))
     → Stores l₃ l₄ leakedAt laterAt (r .leaked ∷ r .verdict ∷ [])
     → Stores l₀ l₄ overlapsAt laterAt (claimFigures r)
 unfolding claimFigures flatten
-claims-stored r l₀ l₁ l₂ l₃ l₄ total first lost totals =
-    stores-then _ _ _ _ _ _ _ _ (stores-one _ _ _ _ total) (stores-then _ _ _ _ _ _ _ _ first (stores-then _ _ _ _ _ _ _ _ lost totals))
+claims-stored r l₀ l₁ l₂ l₃ l₄ n e total first lost totals =
+    stores-then _ _ _ _ _ _ _ _ (stores-one _ _ _ _ (total ∙ ap (set l₀ overlapsAt) e)) (stores-then _ _ _ _ _ _ _ _ first (stores-then _ _ _ _ _ _ _ _ lost totals))
 
 pub base-stored : (a : Answer) (l₀ l₁ l₂ : List ℕ) → Stores l₀ l₁ refusalAt overlapsAt (auditFigures a)
     → Stores l₁ l₂ overlapsAt laterAt (claimFigures (a .report)) → Stores l₀ l₂ refusalAt laterAt (baseFigures a)
 unfolding baseFigures
 base-stored a l₀ l₁ l₂ = stores-then l₀ l₁ l₂ refusalAt overlapsAt laterAt (auditFigures a) (claimFigures (a .report))
+
+pub later-stored : (r : Report) (l₀ l₁ l₂ : List ℕ) → Stores l₀ l₁ laterAt claimantsAt (lostFigures (slice baseKinds kinds (r .lost)))
+    → Stores l₁ l₂ claimantsAt answerFigures (r .overlaps .claimants) → Stores l₀ l₂ laterAt answerFigures (laterFigures r)
+unfolding laterFigures
+later-stored r l₀ l₁ l₂ lost claimants = stores-then _ _ _ _ _ _ _ _ lost claimants
 
 pub all-written : (a : Answer) (l₀ l₁ l₂ : List ℕ) → Stores l₀ l₁ refusalAt laterAt (baseFigures a)
     → Stores l₁ l₂ laterAt answerFigures (laterFigures (a .report)) → l₂ ≡ written a l₀

@@ -3,7 +3,7 @@ use mathlib.Core.List.{List, [], _∷_, _++_, map, flatMap, flatten}
 use Prim.Native.Nat.{ℕ}
 use lib.ListN.{length, take, drop}
 use lib.Seq.{slice}
-use Rattle.report.specs.Report.{kinds, endingNumber}
+use Rattle.report.specs.Report.{overlapFigure, kinds, endingNumber}
 use Rattle.report.specs.declared.Answer.{Answer}
 use Rattle.report.specs.declared.Lost.{Lost}
 use Rattle.report.specs.declared.Overlap.{Overlap}
@@ -46,7 +46,7 @@ baseKinds = 9
 unfoldable pub claimFigures : Report → List ℕ
 claimFigures r =
     flatten (
-    (r .overlaps .total ∷ [])
+    (overlapFigure (r .overlaps) ∷ [])
     ∷ flatMap overlapFigures (r .overlaps .first)
     ∷ lostFigures (slice 0 baseKinds (r .lost))
     ∷ (r .leaked ∷ r .verdict ∷ [])
@@ -56,9 +56,9 @@ claimFigures r =
 unfoldable pub baseFigures : Answer → List ℕ
 baseFigures a = auditFigures a ++ claimFigures (a .report)
 
--- kinds beyond the base's come last: who has an array of the base's numbers goes on as before
+-- kinds beyond the base's and overlaps by claimant come last: who has an array of the base's numbers goes on as before
 unfoldable pub laterFigures : Report → List ℕ
-laterFigures r = lostFigures (slice baseKinds kinds (r .lost))
+laterFigures r = lostFigures (slice baseKinds kinds (r .lost)) ++ r .overlaps .claimants
 
 unfoldable pub figuresOf : Answer → List ℕ
 figuresOf a = baseFigures a ++ laterFigures (a .report)

@@ -53,5 +53,8 @@ laterLostAt = 79  -- blocks owned but unmarked, of kinds 10 and 11
 abbrev pub laterFirstLostAt : ℕ
 laterFirstLostAt = 81  -- the first such of each
 
+abbrev pub claimantsAt : ℕ
+claimantsAt = 83  -- overlaps by the kind that came second, of kinds 1 to 11
+
 abbrev pub answerFigures : ℕ
-answerFigures = 83  -- how many numbers there are
+answerFigures = 94  -- how many numbers there are

@@ -8,6 +8,7 @@ use report::Lost;
 use report::Overlap;
 use report::Problem;
 use report::Report;
+use report::logs::overlap_total;
 ghost use mathlib.Core.List.{map, flatMap};
 ghost use mathlib.Core.Path.{_≡_};
 ghost use Prim.Native.Nat.{_+_, _*_, _-_, _≤_, _<_, _^_};
@@ -38,6 +39,8 @@ const LOST: usize = 59;
 const LEAKED: usize = 77;
 
 const LATER: usize = 79;
+
+const CLAIMANTS: usize = 83;
 
 // Kinds whose numbers stand among the base's; those of later kinds follow at the end.
 const BASE_KINDS: usize = 9;
@@ -90,6 +93,13 @@ fn put_overlaps(figures: &mut [u64], at: usize, overlaps: [Overlap; LOGGED])
         let numbers = [o.block, o.owner as u64, o.claimant as u64];
         put_all(figures, at + OVERLAP_FIGURES * i, &numbers);
     }
+}
+
+fn put_claimants(figures: &mut [u64], at: usize, claimants: [u64; KINDS])
+    requires { ⌜ at < answerFigures ⌝ }
+    ensures { λ r. ⌜ Stores (now (figures .entry)) (now (figures .exit)) at (at + kinds) claimants ⌝ }
+{
+    put_all(figures, at, &claimants);
 }
 
 // How many blocks of a kind are lost, or the first of them.
@@ -152,7 +162,8 @@ fn write_claims(report: Report, figures: &mut [u64])
     ensures { λ r. ⌜ Stores (now (figures .entry)) (now (figures .exit)) overlapsAt laterAt (claimFigures report) ⌝ }
 {
     let overlaps = report.overlaps;
-    put(figures, OVERLAPS, overlaps.total);
+    let claimants = overlaps.claimants;
+    put(figures, OVERLAPS, overlap_total(claimants));
     let first = overlaps.first;
     put_overlaps(figures, OVERLAP, first);
     let lost = report.lost;
@@ -175,6 +186,9 @@ fn write_later(report: Report, figures: &mut [u64])
 {
     let lost = report.lost;
     put_lost(figures, LATER, lost, BASE_KINDS, KINDS);
+    let overlaps = report.overlaps;
+    let claimants = overlaps.claimants;
+    put_claimants(figures, CLAIMANTS, claimants);
 }
 
 // Writes the numbers: as many of them as the array has places.

@@ -1,32 +1,29 @@
--- The total of lost blocks that is printed is the sum of the counts printed below it: in the report of a pass it is below 2^64, since a
--- block has one owner, and so is lost once at most.
-use mathlib.Core.Path.{_≡_, refl}
+-- The totals of overlaps and of lost blocks that are printed are the sums of the counts printed below them. In the report of a pass
+-- either is below 2^64: overlaps, since 21 guards their sum; lost blocks, since a block has one owner, and so is lost once at most.
+use mathlib.Core.Path.{_≡_, refl, sym, ap, _∙_}
 use mathlib.Core.Bool.{Bool, true, false, not, _&&_}
-use mathlib.Core.List.{List, [], _∷_}
+use mathlib.Core.List.{List, [], _∷_, _++_, map}
 use Prim.Native.Nat.{ℕ, zero, suc, zero-le, _+_, _-_, _^_, _≤_, _<_}
 use native.Mathlib.Omega.{arith}
 use lib.Dec.{eqb}
 use lib.ListN.{length, take, length-take}
+use lib.Seq.{take-all}
 use borrow.Author.Tests.{ne-eqb, eqb-true}
 use Rattle.fields.specs.Choice.{pick}
-use Rattle.blocks.specs.Reads.{Reads, done, refuse, read, Outcome, given, refused, run, _>>=_}
-use Rattle.blocks.specs.Blocks.{blockOf}
 use Rattle.blocks.specs.declared.Container.{Container}
 use Rattle.blocks.specs.declared.ObjectId.{ObjectId}
-use Rattle.checkpoint.specs.Checkpoint.{Taken, admit}
-use Rattle.checkpoint.specs.declared.Geometry.{Geometry}
 use Rattle.checkpoint.specs.declared.Mapped.{Mapped}
-use Rattle.checkpoint.proofs.OpeningLaws.{geometry-given}
-use Rattle.block_map.specs.BlockMap.{Marked, ownerOf, isMarked, countIn}
-use Rattle.report.specs.Report.{kinds, zeroReport, refusal, reported}
+use Rattle.block_map.specs.BlockMap.{ownerOf, isMarked, countIn}
+use Rattle.report.specs.Report.{kinds, sumOf, overlapFigure, zeroReport}
 use Rattle.report.specs.declared.Answer.{Answer}
 use Rattle.report.specs.declared.Lost.{Lost}
-use Rattle.report.specs.declared.Report.{Report}
 use Rattle.totals.proofs.Laws.{count-from}
 use Rattle.totals.specs.Totals.{isLost, lostOf, lostFrom, lostIn}
 use Rattle.claims.specs.Claims.{containerSuperblock}
-use Rattle.space_check.specs.Check.{check, checkIn, settle, pass, rest, body, auditAndClaim, claimAndReport, reportOf}
-use Rattle.listing_text.specs.Listing.{lostAt, lostTotal, placesByName}
+use Rattle.space_check.specs.Check.{check, body, auditAndClaim, claimAndReport, reportOf}
+use Rattle.space_check.proofs.Ends.{Ends, ends-done, ends-after, ends-check}
+use Rattle.space_check.proofs.Overlaps.{overlaps-summed, overlaps-exact}
+use Rattle.listing_text.specs.Listing.{Claimant, claimantIf, claimantsFrom, claimantsOf, lostAt, lostTotal, placesByName}
 
 -- lost blocks after others
 lost-after : (ls : List Lost) (n : ℕ) → lostIn ls n ≡ n + lostIn ls 0
@@ -112,86 +109,64 @@ in-order : (cells : List ℕ) → countsOf (lostFrom cells kinds containerSuperb
 unfolding countsOf placesByName sums lostFrom lostOf lostIn
 in-order cells = omega arith
 
--- what a report's lost blocks keep, in a container of so many blocks
-record Few (n : ℕ) (lost : List Lost) : Type 0 where
-  most : lostIn lost 0 ≤ n
+-- in a report of a container of few blocks
+record Few (lost : List Lost) : Type 0 where
+  most : lostIn lost 0 ≤ 2 ^ 32 - 1
   summed : countsOf lost placesByName ≡ lostIn lost 0
 
--- a pass whose every answer has a property, whatever it reads
-Gives : {A : Type 0} → (A → Type 0) → Reads A → Type 0
-Gives P (done a) = P a
-Gives P (refuse r) = Unit {0}
-Gives P (read n k) = (b : List ℕ) → Gives P (k b)
+no-lost : Few (zeroReport .lost)
+unfolding zeroReport lostIn countsOf placesByName
+no-lost = record { most = zero-le; summed = refl }
 
-gives-then : {A B : Type 0} (Q : A → Type 0) (P : B → Type 0) (m : Reads A) (k : A → Reads B) → Gives Q m → ((a : A) → Q a → Gives P (k a)) → Gives P (m >>= k)
-unfolding Gives _>>=_
-gives-then Q P (done a) k h next = next a h
-gives-then Q P (refuse r) k h next = tt
-gives-then Q P (read n j) k h next = λ b. gives-then Q P (j b) k (h b) next
-
-gives-any : {A : Type 0} (m : Reads A) → Gives (λ a. Unit {0}) m
-unfolding Gives
-gives-any (done a) = tt
-gives-any (refuse r) = tt
-gives-any (read n k) = λ b. gives-any (k b)
-
-gives-after : {A B : Type 0} (P : B → Type 0) (m : Reads A) (k : A → Reads B) → ((a : A) → Gives P (k a)) → Gives P (m >>= k)
-gives-after P m k next = gives-then (λ a. Unit {0}) P m k (gives-any m) (λ a h. next a)
-
-Given : {A : Type 0} → (A → Type 0) → Outcome A → Type 0
-Given P (given a) = P a
-Given P (refused r) = Unit {0}
-
-gives-run : {A : Type 0} (P : A → Type 0) (f : ℕ → List ℕ) (p : Reads A) → Gives P p → Given P (run f p)
-unfolding Gives Given run
-gives-run P f (done a) h = h
-gives-run P f (refuse r) h = tt
-gives-run P f (read n k) h = gives-run P f (k (f n)) (h (f n))
-
-admitted : (g : Geometry) (t : Taken) → Gives (λ c. c .count ≡ g .count) (admit g t)
-unfolding admit Gives
-admitted g t = gives-after _ _ _ (λ a. gives-after _ _ _ (λ b. refl))
-
-module _ (c : Container) (sb : List ℕ) (mapped : ObjectId → Mapped) (n : ℕ) (e : c .count ≡ n) where
-  few-lost : (map : List ℕ) → Gives (λ s. Few n (s .figures .lost)) (body c sb mapped map)
-  unfolding body auditAndClaim claimAndReport reportOf Gives sums
-  few-lost map =
-      gives-after _ _ _
-      (λ x.
-      gives-after _ _ _
-      (λ a.
-      gives-after _ _ _
-      (λ o.
-      record {
-        most = omega (arith, sums-most (take (c .count) (o .map)) kinds containerSuperblock, length-take (c .count) (o .map));
-        summed = in-order (take (c .count) (o .map));
-      })))
-
-few-in-pass : (g : Geometry) (map : List ℕ) → Gives (λ s. Few (g .count) (s .figures .lost)) (pass g map)
-unfolding pass rest
-few-in-pass g map = gives-after _ _ _ (λ t. gives-then _ _ _ _ (admitted g t) (λ c e. few-lost c _ _ (g .count) e _))
+few-lost : (c : Container) (sb : List ℕ) (mapped : ObjectId → Mapped) (map : List ℕ) → c .count ≤ 2 ^ 32 - 1 → Ends (λ s. Few (s .figures .lost)) (body c sb mapped map)
+unfolding body auditAndClaim claimAndReport reportOf sums
+few-lost c sb mapped map few =
+    ends-after _ _ _ (λ x.
+    ends-after _ _ _ (λ a.
+    ends-after _ _ _ (λ o.
+    ends-done _ _ (record {
+      most = omega (arith, sums-most (take (c .count) (o .map)) kinds containerSuperblock, length-take (c .count) (o .map));
+      summed = in-order (take (c .count) (o .map));
+    }))))
 
 -- the total printed is the sum of the counts printed; a kind without a line has a count of 0
-abbrev pub Exact : Answer → Type 0
-Exact a = lostTotal (a .report .lost) ≡ countsOf (a .report .lost) placesByName
+abbrev pub LostExact : Answer → Type 0
+LostExact a = lostTotal (a .report .lost) ≡ countsOf (a .report .lost) placesByName
 
-settled : (g : Geometry) (map : List ℕ) (o : Outcome (Marked Report)) → g .count ≤ 2 ^ 32 - 1 → Given (λ s. Few (g .count) (s .figures .lost)) o
-    → Exact (settle (g .count) map o .answer)
-unfolding settle Given reported refusal zeroReport lostIn countsOf placesByName
-settled g map (given s) few h = omega (arith, h .most, h .summed)
-settled g map (refused r) few h = refl
+pub lost-total-exact : (image map : List ℕ) → LostExact (check image map .answer)
+lost-total-exact image map = let h = ends-check (λ r. Few (r .lost)) no-lost few-lost image map in omega (arith, h .most, h .summed)
 
-checked-in : (image map : List ℕ) (o : Outcome Geometry) → Given (λ g. g .count ≤ 2 ^ 32 - 1) o → Exact (checkIn image map o .answer)
-unfolding checkIn Given refusal zeroReport lostIn countsOf placesByName
-checked-in image map (refused r) h = refl
-checked-in image map (given g) h = settled g map _ h (gives-run _ (blockOf image (g .size)) (pass g map) (few-in-pass g map))
+-- the counts printed of kinds that came second
+abbrev pub countsPrinted : List Claimant → List ℕ
+countsPrinted = map (λ c. c .count)
 
-known : {A : Type 0} (P : A → Type 0) (o : Outcome A) → ((a : A) → o ≡ given a → P a) → Given P o
-unfolding Given
-known P (given a) h = h a refl
-known P (refused r) h = tt
+printed-then : (xs ys : List Claimant) → sumOf (countsPrinted (xs ++ ys)) ≡ sumOf (countsPrinted xs) + sumOf (countsPrinted ys)
+unfolding sumOf
+printed-then [] ys = omega arith
+printed-then (x ∷ xs) ys = omega (arith, printed-then xs ys)
 
-pub lost-total-exact : (image map : List ℕ) → Exact (check image map .answer)
-unfolding check
-lost-total-exact image map =
-    checked-in image map _ (known (λ g. g .count ≤ 2 ^ 32 - 1) _ (λ g e. geometry-given _ _ _ g e .few))
+printed-one : (kind n : ℕ) → sumOf (countsPrinted (claimantIf kind n)) ≡ n
+unfolding claimantIf sumOf
+printed-one kind n = go (eqb n 0) refl
+  where
+    this : Claimant
+    this = record { kind = kind; count = n }
+
+    go : (t : Bool) → eqb n 0 ≡ t → sumOf (countsPrinted (pick t [] (this ∷ []))) ≡ n
+    go true e = sym (eqb-true n 0 e)
+    go false e = omega arith
+
+printed-all : (kind : ℕ) (ns : List ℕ) → sumOf (countsPrinted (claimantsFrom kind ns)) ≡ sumOf ns
+unfolding claimantsFrom sumOf
+printed-all kind [] = refl
+printed-all kind (n ∷ ns) = omega (arith, printed-then (claimantIf kind n) (claimantsFrom (kind + 1) ns), printed-one kind n, printed-all (kind + 1) ns)
+
+-- document 02: "the printed total equals the sum of those lines"
+abbrev pub OverlapsExact : Answer → Type 0
+OverlapsExact a = overlapFigure (a .report .overlaps) ≡ sumOf (countsPrinted (claimantsOf (a .report .overlaps)))
+
+pub overlaps-total-exact : (image map : List ℕ) → OverlapsExact (check image map .answer)
+overlaps-total-exact image map =
+    let claimants = check image map .answer .report .overlaps .claimants in
+    let all : length claimants ≤ kinds = omega (arith, overlaps-summed image map .each) in
+    overlaps-exact image map ∙ ap sumOf (sym (take-all kinds claimants all)) ∙ sym (printed-all 1 (take kinds claimants))

@@ -1,7 +1,7 @@
 -- Pieces put into a buffer, and the loops over a format and over a list's lines; and the lost blocks of all kinds.
 use mathlib.Core.Path.{_≡_, refl, sym, ap, _∙_}
 use mathlib.Core.Bool.{Bool, true, false}
-use mathlib.Core.List.{List, [], _∷_, _++_, flatMap}
+use mathlib.Core.List.{List, [], _∷_, _++_, flatMap, append-assoc}
 use Prim.Native.Nat.{ℕ, _+_, _%_, _^_, _≤_, _<_, min}
 use native.Mathlib.Nat.{le-refl}
 use native.Mathlib.Numerals.{add-one}
@@ -21,8 +21,8 @@ use Rattle.report.specs.declared.Ending.{Ending}
 use Rattle.report.specs.declared.Ending.the-variants.{Done, Refused}
 use Rattle.totals.specs.Totals.{lostIn}
 use Rattle.totals.specs.contracts.Counting.{noLost}
-use Rattle.listing_text.specs.Lines.{decimalSign, hexSign, nameSign, piece, taken, filledFrom, filled, lostLine, lostKindLine, refusedLine}
-use Rattle.listing_text.specs.Listing.{named, lostKindLineOf, reportLines, answerLines}
+use Rattle.listing_text.specs.Lines.{decimalSign, hexSign, nameSign, piece, taken, filledFrom, filled, claimantLine, lostKindLine, refusedLine}
+use Rattle.listing_text.specs.Listing.{named, Claimant, claimantIf, claimantsFrom, claimantLineOf, lostKindLineOf, reportLines, answerLines}
 use Rattle.listing_text.specs.contracts.Writing.{Written, upTo, put, putAll}
 
 pub glue : {a a′ b b′ c c′ : List ℕ} → a ≡ a′ → b ≡ b′ → c ≡ c′ → (a ++ b) ++ c ≡ (a′ ++ b′) ++ c′
@@ -132,8 +132,55 @@ module _ {A : Type 0} (f : A → List (List ℕ)) (total : ℕ) (first : List A)
       let inside : i < length (named total first) = omega (arith, length-take-le (min total logged) first (omega arith)) in
       each-more f (named total first) i w d x after inside (e ∙ sym (getD-take (min total logged) first i d h)) p
 
-pub lost-sum : (n m : ℕ) (x w : Written) → n ≡ m → x ≡ putAll (lostLine n) w → x ≡ putAll (lostLine m) w
-lost-sum n m x w e p = rw (← e) p
+-- lines of a figure that the code has made
+pub by-figure : (lines : ℕ → List (List ℕ)) (n m : ℕ) (x w : Written) → n ≡ m → x ≡ putAll (lines n) w → x ≡ putAll (lines m) w
+by-figure lines n m x w e p = rw (← e) p
+
+pub by-total : {A : Type 0} (f : A → List (List ℕ)) (first : List A) (n m : ℕ) (x w : Written) → n ≡ m → x ≡ putAll (flatMap f (named n first)) w
+    → x ≡ putAll (flatMap f (named m first)) w
+by-total f first = by-figure (λ n. flatMap f (named n first))
+
+-- the line of a kind that came second: none where its count is 0
+module _ (kind count : ℕ) (x w : Written) where
+  pub claimant-shown : (count ≡ 0 → ⊥) → x ≡ putAll (claimantLine kind count) w → x ≡ putAll (flatMap claimantLineOf (claimantIf kind count)) w
+  unfolding claimantIf flatMap putAll
+  claimant-shown some p = rw (ne-eqb count 0 some) (then (claimantLine kind count) [] x x w p refl)
+
+  pub claimant-none : count ≡ 0 → x ≡ w → x ≡ putAll (flatMap claimantLineOf (claimantIf kind count)) w
+  unfolding claimantIf flatMap putAll
+  claimant-none none p = p ∙ sym (rw (eq-eqb count 0 none) refl)
+
+-- the lines of such kinds: none is left, or one more is written
+flatMap-append : {A : Type 0} (f : A → List (List ℕ)) (xs ys : List A) → flatMap f (xs ++ ys) ≡ flatMap f xs ++ flatMap f ys
+unfolding flatMap
+flatMap-append f [] ys = refl
+flatMap-append f (x ∷ xs) ys = ap (λ (l : List (List ℕ)). f x ++ l) (flatMap-append f xs ys) ∙ sym (append-assoc (f x) (flatMap f xs) (flatMap f ys))
+
+module _ (ns : List ℕ) (i : ℕ) (w : Written) where
+  pub claimants-done : (whole : Written) → putAll (flatMap claimantLineOf (claimantsFrom (i + 1) (drop i ns))) w ≡ whole → length ns ≤ i → w ≡ whole
+  unfolding claimantsFrom flatMap putAll
+  claimants-done whole e h = sym (rw (drop-of-length-le ns h) refl) ∙ e
+
+  claimants-split : i < length ns → claimantsFrom (i + 1) (drop i ns) ≡ claimantIf (i + 1) (getD ns i 0) ++ claimantsFrom (i + 1 + 1) (drop (i + 1) ns)
+  unfolding claimantsFrom
+  claimants-split h = ap (claimantsFrom (i + 1)) (drop-cons ns i 0 h) ∙ ap (λ (k : ℕ). claimantIf (i + 1) (getD ns i 0) ++ claimantsFrom (i + 1 + 1) (drop k ns)) (sym (add-one i))
+
+  pub claimants-more : (n : ℕ) (after : Written) → i < length ns → n ≡ getD ns i 0 → after ≡ putAll (flatMap claimantLineOf (claimantIf (i + 1) n)) w
+      → putAll (flatMap claimantLineOf (claimantsFrom (i + 1 + 1) (drop (i + 1) ns))) after ≡ putAll (flatMap claimantLineOf (claimantsFrom (i + 1) (drop i ns))) w
+  claimants-more n after h e p =
+      ap (putAll (flatMap claimantLineOf left)) (p ∙ ap (λ (m : ℕ). putAll (flatMap claimantLineOf (claimantIf (i + 1) m)) w) e)
+      ∙ sym (all-then (flatMap claimantLineOf next) (flatMap claimantLineOf left) w)
+      ∙ ap (λ (ts : List (List ℕ)). putAll ts w) (sym (flatMap-append claimantLineOf next left))
+      ∙ ap (λ (cs : List Claimant). putAll (flatMap claimantLineOf cs) w) (sym split)
+    where
+      next : List Claimant
+      next = claimantIf (i + 1) (getD ns i 0)
+
+      left : List Claimant
+      left = claimantsFrom (i + 1 + 1) (drop (i + 1) ns)
+
+      split : claimantsFrom (i + 1) (drop i ns) ≡ next ++ left
+      split = claimants-split h
 
 -- the line of a kind: none where it lost no block
 module _ (lost : List Lost) (place : ℕ) where

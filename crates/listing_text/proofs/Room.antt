@@ -6,12 +6,13 @@ use Prim.Native.Nat.{ℕ, zero, suc, zero-le, _+_, _-_, _*_, _^_, _≤_, min}
 use native.Mathlib.Nat.{le-refl, le-trans, zero-add}
 use native.Mathlib.Omega.{arith}
 use lib.Dec.{leb, ltb, eqb, lit≤}
-use lib.ListN.{length, getD, length-append, length-take}
+use lib.ListN.{length, getD, take, length-append, length-take}
 use Rattle.fields.specs.Choice.{pick}
 use Rattle.blocks.specs.Refusals.{numberOf}
-use Rattle.report.specs.Report.{logged, kinds}
+use Rattle.report.specs.Report.{logged, kinds, overlapFigure}
 use Rattle.report.specs.declared.Problem.{Problem}
 use Rattle.report.specs.declared.Overlap.{Overlap}
+use Rattle.report.specs.declared.OverlapLog.{OverlapLog}
 use Rattle.report.specs.declared.Lost.{Lost}
 use Rattle.report.specs.declared.Report.{Report}
 use Rattle.report.specs.declared.Ending.{Ending}
@@ -20,7 +21,7 @@ use Rattle.report.specs.declared.Answer.{Answer}
 use Rattle.totals.specs.Totals.{consistent}
 use Rattle.listing_text.specs.Text.{placesFrom, mostDigits, places, numeral}
 use Rattle.listing_text.specs.Lines.{decimalSign, hexSign, nameSign, kindNames, kindName, piece, taken, filledFrom, problemFormats, problemFormat, lastFormat, titleLine, poolLine, bitmapsLine, overlapsLine, lostLine, leakedLine, resultLine, refusedLine}
-use Rattle.listing_text.specs.Listing.{named, problemLineOf, overlapLineOf, placesByName, lostAt, lostKindLineOf, lostTotal, reportLines, answerLines, listingOf}
+use Rattle.listing_text.specs.Listing.{named, problemLineOf, Claimant, claimantIf, claimantsFrom, claimantsOf, claimantLineOf, overlapLineOf, placesByName, lostAt, lostKindLineOf, lostTotal, reportLines, answerLines, listingOf}
 use Rattle.listing_text.proofs.Tables.{at-each}
 use Rattle.listing_text.proofs.Digits.{numeral-length}
 
@@ -80,7 +81,7 @@ abbrev pub lineBytes : ℕ
 lineBytes = 160
 
 abbrev pub mostLines : ℕ
-mostLines = 7 + logged + logged + kinds
+mostLines = 7 + kinds + logged + logged + kinds
 
 abbrev pub mostBytes : ℕ
 mostBytes = mostLines * lineBytes
@@ -159,6 +160,29 @@ overlap-line : (o : Overlap) → Fits 1 (overlapLineOf o)
 unfolding formatBytes mostOf
 overlap-line o = by-format _ _ (lit≤ tt)
 
+-- one line for a kind at most
+claimant-line : (c : Claimant) → Fits 1 (claimantLineOf c)
+unfolding formatBytes mostOf
+claimant-line c = by-format _ _ (lit≤ tt)
+
+claimants-most : (kind : ℕ) (ns : List ℕ) → length (claimantsFrom kind ns) ≤ length ns
+unfolding claimantsFrom claimantIf
+claimants-most kind [] = zero-le
+claimants-most kind (n ∷ ns) = simp length-append (omega (arith, one (eqb n 0), claimants-most (kind + 1) ns))
+  where
+    this : Claimant
+    this = record { kind = kind; count = n }
+
+    one : (t : Bool) → length (pick t [] (this ∷ [])) ≤ 1
+    one true = zero-le
+    one false = le-refl 1
+
+claimant-lines : (l : OverlapLog) → Fits kinds (flatMap claimantLineOf (claimantsOf l))
+claimant-lines l =
+    record {
+      most = omega (arith, each-lines claimantLineOf claimant-line (claimantsOf l) .most, claimants-most 1 (take kinds (l .claimants)), length-take kinds (l .claimants));
+    }
+
 bitmaps-line : (free wrong device : ℕ) → Fits 1 (bitmapsLine free wrong device)
 unfolding formatBytes mostOf
 bitmaps-line free wrong device = format-and _ _ _ 17 (one-of (eqb free device) _ _ 17 (lit≤ tt) (lit≤ tt)) (lit≤ tt)
@@ -177,8 +201,9 @@ report-lines r =
     then pool-line (r .«pool_used») (r .«pool_unused») (r .problems .total)
     then named-lines problemLineOf problem-line (r .problems .total) (r .problems .first)
     then bitmaps-line (r .free) (r .«wrong_chunks») (r .«device_free»)
-    then overlaps-line (r .overlaps .total)
-    then named-lines overlapLineOf overlap-line (r .overlaps .total) (r .overlaps .first)
+    then overlaps-line (overlapFigure (r .overlaps))
+    then claimant-lines (r .overlaps)
+    then named-lines overlapLineOf overlap-line (overlapFigure (r .overlaps)) (r .overlaps .first)
     then lost-line (lostTotal (r .lost))
     then each-lines (lostKindLineOf (r .lost)) (lost-kind (r .lost)) placesByName
     then leaked-line (r .leaked)

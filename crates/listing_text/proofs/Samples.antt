@@ -8,7 +8,7 @@ use lib.Dec.{eqb, ltb}
 use lib.ListN.{replicate}
 use Rattle.fields.specs.Choice.{pick}
 use Rattle.blocks.specs.declared.Refusal.the-variants.{ShortImage, NotVolume}
-use Rattle.report.specs.Report.{noProblems, noOverlaps, kinds, zeroReport, refusal, reported}
+use Rattle.report.specs.Report.{noProblems, noOverlaps, sumOf, kinds, zeroReport, refusal, reported}
 use Rattle.report.specs.declared.Answer.{Answer}
 use Rattle.report.specs.declared.Lost.{Lost}
 use Rattle.report.specs.declared.Overlap.{Overlap}
@@ -17,14 +17,14 @@ use Rattle.totals.specs.Totals.{inconsistent, lostIn}
 use Rattle.totals.specs.contracts.Counting.{noLost}
 use Rattle.listing_text.specs.Text.{ascii, digits, placesFrom, places, numeral, decimal, hex}
 use Rattle.listing_text.specs.Lines.{kindNames, kindName, piece, taken, filledFrom, problemFormats, problemFormat, problemLine}
-use Rattle.listing_text.specs.Listing.{placesByName, lostKindLineOf, reportLines, answerLines, listingOf}
+use Rattle.listing_text.specs.Listing.{claimantIf, claimantsFrom, claimantLineOf, placesByName, lostKindLineOf, reportLines, answerLines, listingOf}
 
 unfoldable pub computed : Answer → List ℕ
-unfolding noProblems noOverlaps zeroReport refusal reported lostIn digits placesFrom places numeral kindNames kindName piece taken filledFrom problemFormats problemFormat flatMap flatten placesByName lostKindLineOf reportLines answerLines listingOf
+unfolding noProblems noOverlaps sumOf zeroReport refusal reported lostIn digits placesFrom places numeral kindNames kindName piece taken filledFrom problemFormats problemFormat flatMap flatten claimantIf claimantsFrom placesByName lostKindLineOf reportLines answerLines listingOf
 computed a = listingOf a
 
--- the report of a damaged container, with the original's lines but for the size for people, and with document 01's last: a problem,
--- overlaps, a lost block
+-- the report of a damaged container, with the original's lines but for the size for people, with document 02's lines by claimant, and
+-- with document 01's last: a problem, overlaps, a lost block
 overlap : ℕ → ℕ → ℕ → Overlap
 overlap block owner claimant = record { block = block; owner = owner; claimant = claimant }
 
@@ -41,7 +41,7 @@ damaged =
       «device_free» = 2;
       overlaps =
           record {
-            total = 6;
+            claimants = 0 ∷ 1 ∷ 0 ∷ 0 ∷ 2 ∷ 1 ∷ 1 ∷ 1 ∷ 0 ∷ 0 ∷ 0 ∷ [];
             first =
                 overlap 0 1 2 ∷ overlap 14 3 5 ∷ overlap 15 3 5 ∷ overlap 13 5 6 ∷ overlap 12 5 7 ∷ overlap 9 5 8 ∷ replicate 4 (overlap 0 0 0);
           };
@@ -56,6 +56,11 @@ every-line : listingOf (reported damaged)
     ++ ascii "  queued internal-pool block 0x4 is already free\n"
     ++ ascii "bitmaps    3 blocks free; chunks with a wrong free count: 1; device free count 2 (DOES NOT MATCH)\n"
     ++ ascii "overlaps   6 blocks claimed by two different things\n"
+    ++ ascii "  checkpoint descriptor area: 1\n"
+    ++ ascii "  internal-pool bitmap ring: 2\n"
+    ++ ascii "  object map: 1\n"
+    ++ ascii "  object map node: 1\n"
+    ++ ascii "  volume superblock: 1\n"
     ++ ascii "  block 0x0: container superblock and checkpoint descriptor area\n"
     ++ ascii "  block 0xe: checkpoint data area and internal-pool bitmap ring\n"
     ++ ascii "  block 0xf: checkpoint data area and internal-pool bitmap ring\n"
@@ -88,6 +93,27 @@ lost-lines : flatten (flatMap (lostKindLineOf (lostFor kinds 1)) placesByName)
     ++ ascii "  volume superblock: 8 (first at 0x80)\n"
 unfolding computed lostFor
 lost-lines = refl
+
+-- every kind with overlaps, as many as its number says: by number, where lost lines are by name; and kinds without one have no line
+claimant-lines : flatten (flatMap claimantLineOf (claimantsFrom 1 (1 ∷ 2 ∷ 3 ∷ 4 ∷ 5 ∷ 6 ∷ 7 ∷ 8 ∷ 9 ∷ 10 ∷ 11 ∷ [])))
+    ≡ ascii "  container superblock: 1\n"
+    ++ ascii "  checkpoint descriptor area: 2\n"
+    ++ ascii "  checkpoint data area: 3\n"
+    ++ ascii "  internal pool: 4\n"
+    ++ ascii "  internal-pool bitmap ring: 5\n"
+    ++ ascii "  object map: 6\n"
+    ++ ascii "  object map node: 7\n"
+    ++ ascii "  volume superblock: 8\n"
+    ++ ascii "  free queue (pending release): 9\n"
+    ++ ascii "  extent-reference tree node: 10\n"
+    ++ ascii "  snapshot tree node: 11\n"
+unfolding computed
+claimant-lines = refl
+
+some-claimants : flatten (flatMap claimantLineOf (claimantsFrom 1 (0 ∷ 0 ∷ 30 ∷ 0 ∷ 0 ∷ 0 ∷ 0 ∷ 0 ∷ 2 ∷ 5 ∷ 0 ∷ [])))
+    ≡ ascii "  checkpoint data area: 30\n  free queue (pending release): 2\n  extent-reference tree node: 5\n"
+unfolding computed
+some-claimants = refl
 
 -- the last of the Rust's problems, document 02's line for the first that it adds, and one for a kind that there may be later
 problem-lines : flatten (problemLine 5 0x1f ++ problemLine 6 0x1f ++ problemLine 12 0)

@@ -99,6 +99,10 @@ bitmapsLine free wrong device =
 abbrev pub overlapsLine : ℕ → List (List ℕ)
 overlapsLine total = filled (ascii "overlaps   # blocks claimed by two different things\n") (total ∷ [])
 
+-- document 02: "two spaces and `name: count`"
+abbrev pub claimantLine : ℕ → ℕ → List (List ℕ)
+claimantLine kind count = filled (ascii "  $: #\n") (kind ∷ count ∷ [])
+
 abbrev pub overlapLine : ℕ → ℕ → ℕ → List (List ℕ)
 overlapLine block owner claimant = filled (ascii "  block 0x@: $ and $\n") (block ∷ owner ∷ claimant ∷ [])
 

@@ -5,16 +5,17 @@ use lib.Dec.{eqb}
 use lib.ListN.{getD, take}
 use Rattle.fields.specs.Choice.{pick}
 use Rattle.blocks.specs.Refusals.{numberOf}
-use Rattle.report.specs.Report.{logged}
+use Rattle.report.specs.Report.{logged, kinds, overlapFigure}
 use Rattle.report.specs.declared.Problem.{Problem}
 use Rattle.report.specs.declared.Overlap.{Overlap}
+use Rattle.report.specs.declared.OverlapLog.{OverlapLog}
 use Rattle.report.specs.declared.Lost.{Lost}
 use Rattle.report.specs.declared.Report.{Report}
 use Rattle.report.specs.declared.Ending.{Ending}
 use Rattle.report.specs.declared.Ending.the-variants.{Done, Refused}
 use Rattle.report.specs.declared.Answer.{Answer}
 use Rattle.totals.specs.Totals.{lostIn}
-use Rattle.listing_text.specs.Lines.{titleLine, poolLine, problemLine, bitmapsLine, overlapsLine, overlapLine, lostLine, lostKindLine, leakedLine, resultLine, refusedLine}
+use Rattle.listing_text.specs.Lines.{titleLine, poolLine, problemLine, bitmapsLine, overlapsLine, claimantLine, overlapLine, lostLine, lostKindLine, leakedLine, resultLine, refusedLine}
 
 -- "the first ten problems", "overlaps and the first ten": those that a log names, of all that were met
 abbrev pub named : {A : Type 0} → ℕ → List A → List A
@@ -25,6 +26,27 @@ problemLineOf p = problemLine (p .kind) (p .block)
 
 abbrev pub overlapLineOf : Overlap → List (List ℕ)
 overlapLineOf o = overlapLine (o .block) (o .owner) (o .claimant)
+
+-- a kind that came second in overlaps, and in how many
+pub record Claimant : Type 0 where
+  pub kind : ℕ
+  pub count : ℕ
+
+-- document 02: "a line for each kind with a nonzero count, in kind order": those of counts in a row, the first of which is a kind's
+unfoldable pub claimantIf : ℕ → ℕ → List Claimant
+claimantIf kind count = pick (eqb count 0) [] (record { kind = kind; count = count } ∷ [])
+
+unfoldable pub claimantsFrom : ℕ → List ℕ → List Claimant
+claimantsFrom kind [] = []
+claimantsFrom kind (n ∷ ns) = claimantIf kind n ++ claimantsFrom (kind + 1) ns
+
+-- of all kinds, which count from 1. Their counts add up to the total printed above them, in the listing of every answer of the
+-- check (listing/proofs/Total.antt).
+abbrev pub claimantsOf : OverlapLog → List Claimant
+claimantsOf l = claimantsFrom 1 (take kinds (l .claimants))
+
+abbrev pub claimantLineOf : Claimant → List (List ℕ)
+claimantLineOf c = claimantLine (c .kind) (c .count)
 
 -- "lost lines are the Rust's": in the order of the kinds' names, by their places in a report
 unfoldable pub placesByName : List ℕ
@@ -48,8 +70,9 @@ reportLines r =
     ++ poolLine (r .«pool_used») (r .«pool_unused») (r .problems .total)
     ++ flatMap problemLineOf (named (r .problems .total) (r .problems .first))
     ++ bitmapsLine (r .free) (r .«wrong_chunks») (r .«device_free»)
-    ++ overlapsLine (r .overlaps .total)
-    ++ flatMap overlapLineOf (named (r .overlaps .total) (r .overlaps .first))
+    ++ overlapsLine (overlapFigure (r .overlaps))
+    ++ flatMap claimantLineOf (claimantsOf (r .overlaps))
+    ++ flatMap overlapLineOf (named (overlapFigure (r .overlaps)) (r .overlaps .first))
     ++ lostLine (lostTotal (r .lost))
     ++ flatMap (lostKindLineOf (r .lost)) placesByName
     ++ leakedLine (r .leaked)

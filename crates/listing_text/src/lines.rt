@@ -2,7 +2,7 @@
 use crate::formats::put_line;
 use crate::rows::row;
 use crate::text::put_text;
-ghost use Rattle.listing_text.specs.Lines.{titleLine, poolLine, problemText, problemLine, bitmapsLine, overlapsLine, overlapLine, lostLine, lostKindLine, leakedLine, resultLine, refusedLine};
+ghost use Rattle.listing_text.specs.Lines.{titleLine, poolLine, problemText, problemLine, bitmapsLine, overlapsLine, claimantLine, overlapLine, lostLine, lostKindLine, leakedLine, resultLine, refusedLine};
 ghost use Rattle.listing_text.specs.contracts.Writing.{Puts};
 
 const CONSISTENT: u8 = 1;
@@ -88,6 +88,13 @@ pub(crate) fn overlaps_line(out: &mut [u8], at: usize, overlaps: u64) -> usize
         b"overlaps   # blocks claimed by two different things\n",
         &figures,
     )
+}
+
+pub(crate) fn claimant_line(out: &mut [u8], at: usize, kind: u64, count: u64) -> usize
+    ensures { λ r. ⌜ Puts out at r (claimantLine kind count) ⌝ }
+{
+    let figures = [kind, count];
+    put_line(out, at, b"  $: #\n", &figures)
 }
 
 pub(crate) fn overlap_line(out: &mut [u8], at: usize, block: u64, owner: u8, claimant: u8) -> usize

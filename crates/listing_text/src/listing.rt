@@ -1,5 +1,6 @@
 // The listing of an answer. A new line is a call in `put_report`, where `reportLines` has it.
 use crate::lines::bitmaps_line;
+use crate::lines::claimant_line;
 use crate::lines::leaked_line;
 use crate::lines::lost_kind_line;
 use crate::lines::lost_line;
@@ -19,12 +20,13 @@ use report::Lost;
 use report::Overlap;
 use report::Problem;
 use report::Report;
+use report::logs::overlap_total;
 ghost use mathlib.Core.Path.{_≡_};
 ghost use mathlib.Core.List.{flatMap};
 ghost use Prim.Native.Nat.{_<_, min};
-ghost use lib.ListN.{getD};
+ghost use lib.ListN.{getD, take};
 ghost use Rattle.report.specs.Report.{logged, kinds};
-ghost use Rattle.listing_text.specs.Listing.{named as Listing·named, problemLineOf, overlapLineOf, placesByName, lostKindLineOf, lostTotal, reportLines, answerLines};
+ghost use Rattle.listing_text.specs.Listing.{named as Listing·named, problemLineOf, claimantIf, claimantsFrom, claimantLineOf, overlapLineOf, placesByName, lostKindLineOf, lostTotal, reportLines, answerLines};
 ghost use Rattle.listing_text.specs.contracts.Writing.{Puts};
 
 // No line has more bytes.
@@ -32,7 +34,7 @@ const LINE_BYTES: usize = 160;
 // The lines that always stand in a report.
 const ALWAYS: usize = 7;
 // No listing has more bytes.
-pub const MOST_BYTES: usize = (ALWAYS + 2 * LOGGED + KINDS) * LINE_BYTES;
+pub const MOST_BYTES: usize = (ALWAYS + 2 * LOGGED + 2 * KINDS) * LINE_BYTES;
 // The number of the first kind of claimants.
 const FIRST_KIND: u64 = 1;
 // Places of the kinds in a report, in the order of their names.
@@ -69,6 +71,27 @@ fn overlap_lines(out: &mut [u8], at: usize, total: u64, first: [Overlap; LOGGED]
     for i in 0..count {
         let o = first[i];
         end = overlap_line(out, end, o.block, o.owner, o.claimant);
+    }
+    end
+}
+
+// A kind that never came second has no line.
+fn claimant(out: &mut [u8], at: usize, kind: u64, count: u64) -> usize
+    ensures { λ r. ⌜ Puts out at r (flatMap claimantLineOf (claimantIf kind count)) ⌝ }
+{
+    if count == 0 {
+        return at;
+    }
+    claimant_line(out, at, kind, count)
+}
+
+// By the kinds' numbers, and not by their names as lost lines are.
+fn claimant_lines(out: &mut [u8], at: usize, claimants: [u64; KINDS]) -> usize
+    ensures { λ r. ⌜ Puts out at r (flatMap claimantLineOf (claimantsFrom 1 (take kinds claimants))) ⌝ }
+{
+    let mut end = at;
+    for i in 0..KINDS {
+        end = claimant(out, end, i as u64 + FIRST_KIND, claimants[i]);
     }
     end
 }
@@ -122,8 +145,10 @@ fn put_report(out: &mut [u8], report: Report) -> usize
     let problems = report.problems;
     let first_problems = problems.first;
     let overlaps = report.overlaps;
+    let claimants = overlaps.claimants;
     let first_overlaps = overlaps.first;
     let lost = report.lost;
+    let total = overlap_total(claimants);
     let at = title_line(out, 0, report.xid);
     let at = pool_line(
         out,
@@ -140,8 +165,9 @@ fn put_report(out: &mut [u8], report: Report) -> usize
         report.wrong_chunks,
         report.device_free,
     );
-    let at = overlaps_line(out, at, overlaps.total);
-    let at = overlap_lines(out, at, overlaps.total, first_overlaps);
+    let at = overlaps_line(out, at, total);
+    let at = claimant_lines(out, at, claimants);
+    let at = overlap_lines(out, at, total, first_overlaps);
     let at = lost_line(out, at, lost_total(lost));
     let at = lost_lines(out, at, lost);
     let at = leaked_line(out, at, report.leaked);

@@ -29,8 +29,9 @@ pub struct Overlap {
     pub claimant: u8,
 }
 
+// All overlaps counted by the kind that came second, and the first ones.
 pub struct OverlapLog {
-    pub total: u64,
+    pub claimants: [u64; KINDS],
     pub first: [Overlap; LOGGED],
 }
 

@@ -7,7 +7,7 @@ ghost use Prim.Native.Nat.{_-_};
 ghost use Rattle.report.specs.contracts.Steps.{pastOf};
 
 // One less, where there is one.
-fn one_less(number: u64) -> u64
+pub(crate) fn one_less(number: u64) -> u64
     ensures { λ r. ⌜ r ≡ number - 1 ⌝ }
 {
     if number == 0 { 0 } else { number - 1 }

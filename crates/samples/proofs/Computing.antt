@@ -24,8 +24,8 @@ use Rattle.volumes.specs.Volumes.{liveAddress, mappedBy, volumeAddress, isVolum
 use Rattle.pool.specs.Pool.{bitmapsFrom, poolFrom, loadPool, poolMarked, unusedFrom}
 use Rattle.queue.specs.Queue.{runCount, runOf, nodeBy, scanQueue, queueFrom, queue}
 use Rattle.totals.specs.Totals.{isLost, lostOf, lostFrom, isLeaked, lostIn, verdictOf}
-use Rattle.report.specs.Report.{noProblems, noOverlaps, note, addProblem, addOverlap, zeroReport, refusal, reported, endingNumber}
+use Rattle.report.specs.Report.{noProblems, noOverlaps, sumOf, countClaimant, note, addProblem, addOverlap, zeroReport, refusal, reported, endingNumber}
 
 unfoldable pub computed : List ℕ → List ℕ → Result
-unfolding le num fieldAt bitAt seal fletcher checksum verifies blockOf readRaw readObject present field part sum run _>>=_ need valueEnd parse readNode describe fixedSlot variableSlot slot valueOf entry pointer readObjectMap describeMap loadObjectMap leafFrom lookAt pointerPast oneBelow indexFrom scanNode below scan childrenFrom nextNode each childrenOf walkBelow walk areaFrom isAfter isAhead bestFrom loaded try tryFrom takeSuperblock admit powerFrom sizeAllowed allowed geometry mappingsFrom belongsTo chainAddress chainFrom chain lookup sound chunkAt chunksFrom managerFrom accepted managerAt managerBy manager listFrom unless auditMark auditUse enter markSet markBit markFrom tally tallyBitmap readBitmap auditBitmap auditChunk auditChunks enterInfo readInfo auditInfo auditEach enterAddress readAddress auditAddress auditListed auditDevice auditQueuedBlock auditQueuedFrom auditQueued update usedAt cleared countIn firstIn audit claimAreas claimMappingsAndVolumes claimObjects claimTrees claims claimAndReport auditAndClaim isLost lostOf lostFrom lostIn isLeaked verdictOf reportOf poolPart managerPart loadParts body rest pass settle checkIn check claimBlock claimFrom claim claimNode mappedAddress claimMapped claimMapping claimMappings claimQueued isAbove above aboveAt searchFrom search childAt lookupFrom lookupLe liveAddress mappedBy volumeAddress isVolume readVolume addressFor volumeFor volumeAt volumesFrom claimTree readMap claimSnapshots claimVolume claimEach claimVolumes bitmapsFrom poolFrom loadPool poolMarked unusedFrom runCount runOf nodeBy scanQueue queueFrom queue noProblems noOverlaps note addProblem addOverlap zeroReport refusal reported endingNumber
+unfolding le num fieldAt bitAt seal fletcher checksum verifies blockOf readRaw readObject present field part sum run _>>=_ need valueEnd parse readNode describe fixedSlot variableSlot slot valueOf entry pointer readObjectMap describeMap loadObjectMap leafFrom lookAt pointerPast oneBelow indexFrom scanNode below scan childrenFrom nextNode each childrenOf walkBelow walk areaFrom isAfter isAhead bestFrom loaded try tryFrom takeSuperblock admit powerFrom sizeAllowed allowed geometry mappingsFrom belongsTo chainAddress chainFrom chain lookup sound chunkAt chunksFrom managerFrom accepted managerAt managerBy manager listFrom unless auditMark auditUse enter markSet markBit markFrom tally tallyBitmap readBitmap auditBitmap auditChunk auditChunks enterInfo readInfo auditInfo auditEach enterAddress readAddress auditAddress auditListed auditDevice auditQueuedBlock auditQueuedFrom auditQueued update usedAt cleared countIn firstIn audit claimAreas claimMappingsAndVolumes claimObjects claimTrees claims claimAndReport auditAndClaim isLost lostOf lostFrom lostIn isLeaked verdictOf reportOf poolPart managerPart loadParts body rest pass settle checkIn check claimBlock claimFrom claim claimNode mappedAddress claimMapped claimMapping claimMappings claimQueued isAbove above aboveAt searchFrom search childAt lookupFrom lookupLe liveAddress mappedBy volumeAddress isVolume readVolume addressFor volumeFor volumeAt volumesFrom claimTree readMap claimSnapshots claimVolume claimEach claimVolumes bitmapsFrom poolFrom loadPool poolMarked unusedFrom runCount runOf nodeBy scanQueue queueFrom queue noProblems noOverlaps sumOf countClaimant note addProblem addOverlap zeroReport refusal reported endingNumber
 computed image map = check image map

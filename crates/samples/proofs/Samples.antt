@@ -3,7 +3,7 @@ use mathlib.Core.Path.{_≡_, refl}
 use mathlib.Core.Bool.{Bool, false, not}
 use mathlib.Core.List.{List, [], _∷_, _++_}
 use mathlib.Core.Option.{Option, some, none}
-use Prim.Native.Nat.{ℕ}
+use Prim.Native.Nat.{ℕ, _-_}
 use lib.Dec.{T, eqb}
 use lib.ListN.{length, getD, replicate}
 use Rattle.fields.proofs.Rows.{Row, row, zeros, bytesOf, blockFrom, every}
@@ -17,7 +17,7 @@ use Rattle.nodes.specs.declared.Description.{Description}
 use Rattle.manager.specs.Chunks.{chunksOf}
 use Rattle.manager.specs.declared.Chunk.{Chunk}
 use Rattle.block_map.specs.BlockMap.{Marked, ownerOf, countIn}
-use Rattle.report.specs.Report.{noProblems, noOverlaps, endingNumber}
+use Rattle.report.specs.Report.{noProblems, noOverlaps, overlapTotal, endingNumber}
 use Rattle.pool.specs.Pool.{Pool, poolMarked}
 use Rattle.audit.specs.Audit.{auditChunk, auditQueued}
 use Rattle.claims.specs.Claims.{claim, claimQueued}
@@ -87,6 +87,9 @@ claimed =
     run (λ n. [])
     (claim sixteen 3 4 1 unclaimed >>= claim sixteen 3 4 1 >>= claim sixteen 4 4 1 >>= claim sixteen 5 4 1)
 
+abbrev claimsSecond : ℕ → ℕ
+claimsSecond kind = figure (λ (s : Marked OverlapLog). getD (s .figures .claimants) (kind - 1) 0) claimed
+
 -- an entry of a queue: address 4, and a count or none
 abbrev queued : Option (List ℕ) → Entry
 queued value = record { key = zeros 8 (bytesOf 8 4 []); value = value }
@@ -128,7 +131,11 @@ table =
     ∷ eqb (number (scanned 0)) 18
     ∷ eqb (number (scanned 1)) 0
     -- "Kinds 3, 3, 4, 5 on one block: 2 overlaps, owner 3."
-    ∷ eqb (figure (λ (s : Marked OverlapLog). s .figures .total) claimed) 2
+    ∷ eqb (figure (λ (s : Marked OverlapLog). overlapTotal (s .figures)) claimed) 2
+    -- document 02: "a count for each kind that arrived second", 4 and 5, and none for the kind that claims its own
+    ∷ eqb (claimsSecond 4) 1
+    ∷ eqb (claimsSecond 5) 1
+    ∷ eqb (claimsSecond 3) 0
     ∷ eqb (figure (λ (s : Marked OverlapLog). ownerOf (getD (s .map) 4 0)) claimed) 3
     -- "Ghost: 1 block. Count 0: none.", in either queue
     ∷ eqb (claimsOf none) 1

@@ -22,7 +22,7 @@ use Rattle.checkpoint.specs.declared.Geometry.{Geometry}
 use Rattle.checkpoint.specs.declared.Mapped.{Mapped}
 use Rattle.manager.specs.Manager.{manager, deviceFree, poolBase, poolBlocks, poolRingBase, poolRingBlocks, poolQueue, mainQueue}
 use Rattle.block_map.specs.BlockMap.{Marked, isUsed, cleared, countIn}
-use Rattle.report.specs.Report.{noOverlaps, kinds, refusal, reported}
+use Rattle.report.specs.Report.{noOverlaps, overlapTotal, kinds, refusal, reported}
 use Rattle.pool.specs.Pool.{Pool, loadPool, unusedFrom}
 use Rattle.queue.specs.Queue.{queue}
 use Rattle.totals.specs.Totals.{lostFrom, isLeaked, verdictOf}
@@ -50,7 +50,7 @@ reportOf c sm p a o map =
       overlaps = o;
       lost = lost;
       leaked = countIn isLeaked cells 0;
-      verdict = verdictOf lost (o .total) (a .problems .total);
+      verdict = verdictOf lost (overlapTotal o) (a .problems .total);
     }
 
 -- what a pass loads before it audits

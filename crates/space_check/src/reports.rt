@@ -14,6 +14,7 @@ use pool::PoolPlace;
 use report::Ending;
 use report::OverlapLog;
 use report::Report;
+use report::logs::overlap_total;
 ghost use mathlib.Core.Path.{_≡_};
 ghost use Rattle.blocks.specs.contracts.Images.{bytes, Holds};
 ghost use Rattle.report.specs.Report.{zeroReport};
@@ -33,6 +34,7 @@ fn report_of(
     let totals = totals::count_blocks(map, container.count);
     let lost = totals.lost;
     let problems = audit.problems;
+    let claimants = overlaps.claimants;
     Report {
         xid: container.xid,
         pool_used: totals.used,
@@ -44,7 +46,7 @@ fn report_of(
         overlaps,
         lost,
         leaked: totals.leaked,
-        verdict: totals::verdict(lost, overlaps.total, problems.total),
+        verdict: totals::verdict(lost, overlap_total(claimants), problems.total),
     }
 }
 

@@ -2,9 +2,10 @@
 use mathlib.Core.Bool.{Bool, true, false, not, _&&_}
 use mathlib.Core.List.{List, [], _∷_, _++_}
 use mathlib.Core.Path.{_≡_, refl, sym, ap, _∙_}
-use Prim.Native.Nat.{ℕ, zero, suc, _+_, _-_, _≤_, _<_}
+use Prim.Native.Nat.{ℕ, zero, suc, _+_, _-_, _^_, _≤_, _<_, min}
 use native.Mathlib.Nat.{zero-add, add-zero}
 use native.Mathlib.Numerals.{add-one}
+use native.Mathlib.Decide.{decLe}
 use native.Mathlib.Omega.{arith}
 use lib.Dec.{eqb}
 use lib.ListN.{length, getD, set, take, drop, replicate, length-set, length-take, length-drop, take-append-drop, drop-of-length-le}
@@ -281,3 +282,16 @@ module _ (lost : List Lost) (overlaps problems : ℕ) where
   pub verdict-found : (lostIn lost 0 + overlaps + problems ≡ 0 → ⊥) → inconsistent ≡ verdictOf lost overlaps problems
   unfolding verdictOf
   verdict-found h = rw (ne-eqb (lostIn lost 0 + overlaps + problems) 0 h) refl
+
+  -- overlaps as far as 64 bits go are none where there are none
+  pub verdict-most : verdictOf lost (min overlaps (2 ^ 64 - 1)) problems ≡ verdictOf lost overlaps problems
+  unfolding verdictOf
+  verdict-most = ap (λ (t : Bool). pick t consistent inconsistent) (go (decLe overlaps 0))
+    where
+      go : Dec (overlaps ≤ 0) → eqb (lostIn lost 0 + min overlaps (2 ^ 64 - 1) + problems) 0 ≡ eqb (lostIn lost 0 + overlaps + problems) 0
+      go (yes none) =
+          let same : lostIn lost 0 + min overlaps (2 ^ 64 - 1) + problems ≡ lostIn lost 0 + overlaps + problems = omega arith in
+          ap (λ (n : ℕ). eqb n 0) same
+      go (no some) =
+          ne-eqb (lostIn lost 0 + min overlaps (2 ^ 64 - 1) + problems) 0 (λ e. omega arith)
+          ∙ sym (ne-eqb (lostIn lost 0 + overlaps + problems) 0 (λ e. omega arith))

@@ -20,7 +20,7 @@ use Rattle.nodes.specs.Walk.{childrenFrom, nextNode, each, childrenOf, walkBelo
 use Rattle.nodes.specs.declared.Description.{Description}
 use Rattle.checkpoint.specs.Superblock.{volumePlaces}
 use Rattle.block_map.specs.BlockMap.{Marked, update, ownerOf}
-use Rattle.report.specs.Report.{noOverlaps, note, addOverlap}
+use Rattle.report.specs.Report.{noOverlaps, sumOf, overlapTotal, countClaimant, note, addOverlap}
 use Rattle.report.specs.declared.OverlapLog.{OverlapLog}
 use Rattle.claims.specs.Claims.{claimBlock, claimFrom, claim, claimNode}
 use Rattle.volumes.specs.Lookup.{isAbove, above, aboveAt, searchFrom, search, childAt, lookupFrom, lookupLe}
@@ -141,7 +141,7 @@ spoilt b n = pick (eqb n 9) (volume 30 40 0) (pick (eqb n 11) b [])
 
 -- the claims of all volumes, over a map of 90 blocks: 100 and the overlaps, or the paper's number of the refusal
 abbrev claimed : Outcome (Marked OverlapLog) → ℕ
-claimed (given s) = 100 + s .figures .total
+claimed (given s) = 100 + overlapTotal (s .figures)
 claimed (refused r) = numberOf r
 
 abbrev free : Marked OverlapLog
@@ -149,7 +149,7 @@ free = record { map = replicate 90 0; figures = noOverlaps }
 
 -- every definition of this layer and below it, named once: what says `unfolding computed` computes with them all
 unfoldable computed : (ℕ → List ℕ) → List ℕ → Outcome (Marked OverlapLog)
-unfolding le num fieldAt seal fletcher checksum verifies run visits _>>=_ need readRaw readObject present field part sum valueEnd parse readNode describe fixedSlot variableSlot slot valueOf entry pointer oneBelow childrenFrom nextNode each childrenOf walkBelow walk isAbove above aboveAt searchFrom search childAt lookupFrom lookupLe liveAddress mappedBy volumeAddress isVolume readVolume addressFor volumeFor volumeAt volumesFrom claimTree readMap claimSnapshots claimVolume claimEach claimVolumes claimBlock claimFrom claim claimNode update addOverlap note noOverlaps blockFrom node object superblock
+unfolding le num fieldAt seal fletcher checksum verifies run visits _>>=_ need readRaw readObject present field part sum valueEnd parse readNode describe fixedSlot variableSlot slot valueOf entry pointer oneBelow childrenFrom nextNode each childrenOf walkBelow walk isAbove above aboveAt searchFrom search childAt lookupFrom lookupLe liveAddress mappedBy volumeAddress isVolume readVolume addressFor volumeFor volumeAt volumesFrom claimTree readMap claimSnapshots claimVolume claimEach claimVolumes claimBlock claimFrom claim claimNode update addOverlap countClaimant sumOf note noOverlaps blockFrom node object superblock
 computed f sb = run f (claimVolumes container pairs (leafRoot two) sb free)
 
 abbrev claimsOf : (ℕ → List ℕ) → List ℕ → ℕ

@@ -37,7 +37,7 @@ pub use names::{Kind, ProblemKind, Refusal, Verdict};
 pub use places::{FIGURES, LOGGED};
 #[cfg(feature = "archive")]
 pub use proved::{check, figures, figures_into};
-pub use report::{Log, Lost, Overlap, Problem, Report};
+pub use report::{Claimant, Log, Lost, Overlap, Problem, Report};
 
 // Where block 0 states the block size, in 4 bytes, and the block count, in 8.
 const BLOCK_SIZE: usize = 36;

@@ -1,10 +1,10 @@
-//! The listing: the lines of winapfs's `space_check_container`, without its sizes for people, and those of problems that it
-//! doesn't have.
+//! The listing: the lines of winapfs's `space_check_container`, without its sizes for people, and those that it doesn't have,
+//! of later problems and of overlaps by claimant.
 
 use std::fmt;
 
 use crate::names::{ProblemKind, Verdict};
-use crate::report::{Lost, Problem, Report};
+use crate::report::{Claimant, Lost, Problem, Report};
 
 /// A report's lines, each with its newline, by `Display`.
 #[derive(Clone, Copy, Debug)]
@@ -68,6 +68,10 @@ fn problem_text(Problem { kind, block }: Problem) -> String {
 /// What the claims say against them.
 fn claims(f: &mut fmt::Formatter<'_>, r: &Report) -> fmt::Result {
     writeln!(f, "overlaps   {} blocks claimed by two different things", r.overlaps.total)?;
+    // in the order of the kinds' numbers, which is not that of the lost lines
+    for Claimant { kind, count } in r.claimants.iter().filter(|claimant| claimant.count != 0) {
+        writeln!(f, "  {kind}: {count}")?;
+    }
     for o in &r.overlaps.first {
         writeln!(f, "  block {:#x}: {} and {}", o.block, o.owner, o.claimant)?;
     }
@@ -88,7 +92,7 @@ fn by_name(r: &Report) -> Vec<Lost> {
 #[cfg(test)]
 mod tests {
     use crate::names::{Kind, Verdict};
-    use crate::places::{self, FIGURES};
+    use crate::places::{self, FIGURES, OVERLAP_NUMBERS};
     use crate::report::Report;
 
     #[test]
@@ -115,5 +119,46 @@ mod tests {
 allocated but unused (leaked): 0 blocks
 ";
         assert!(listing.contains(lost), "{listing}");
+    }
+
+    /// Claims come in the order 2, 3, 10, 9; by name it is 3, 2, 10, 9.
+    #[test]
+    fn claimants_are_sorted_by_number_and_lost_lines_by_name() {
+        let claims = [(0, 1, 2), (17, 2, 3), (18, 2, 3), (33, 8, 10), (34, 3, 9), (34, 3, 9), (35, 3, 9)];
+        let mut figures = [0; FIGURES];
+        figures[places::VERDICT] = Verdict::Inconsistent.number();
+        figures[places::OVERLAPS] = claims.len() as u64;
+        for (i, &(block, owner, claimant)) in claims.iter().enumerate() {
+            let at = places::OVERLAP + i * OVERLAP_NUMBERS;
+            figures[at..at + OVERLAP_NUMBERS].copy_from_slice(&[block, owner, claimant]);
+            let kind = Kind::from_number(claimant).unwrap();
+            figures[places::claimant(kind)] += 1;
+            figures[places::lost(kind)] = claimant;
+            figures[places::first_lost(kind)] = 16 * claimant;
+        }
+        let report = Report::of_figures(&figures).unwrap();
+        assert_eq!(report.claimants.iter().map(|claimant| claimant.count).sum::<u64>(), report.overlaps.total);
+        let listing = report.listing("disk").to_string();
+        let expected = "overlaps   7 blocks claimed by two different things
+  checkpoint descriptor area: 1
+  checkpoint data area: 2
+  free queue (pending release): 3
+  extent-reference tree node: 1
+  block 0x0: container superblock and checkpoint descriptor area
+  block 0x11: checkpoint descriptor area and checkpoint data area
+  block 0x12: checkpoint descriptor area and checkpoint data area
+  block 0x21: volume superblock and extent-reference tree node
+  block 0x22: checkpoint data area and free queue (pending release)
+  block 0x22: checkpoint data area and free queue (pending release)
+  block 0x23: checkpoint data area and free queue (pending release)
+in use but marked free: 24 blocks
+  checkpoint data area: 3 (first at 0x30)
+  checkpoint descriptor area: 2 (first at 0x20)
+  extent-reference tree node: 10 (first at 0xa0)
+  free queue (pending release): 9 (first at 0x90)
+allocated but unused (leaked): 0 blocks
+result     inconsistent
+";
+        assert!(listing.ends_with(expected), "{listing}");
     }
 }

@@ -46,8 +46,10 @@ places! {
     LATER_LOST = 79;
     /// The first such of each of them.
     LATER_FIRST_LOST = 81;
+    /// Overlaps by the kind that came second, of kinds 1 to 11: see [`claimant`]. They add up to [`OVERLAPS`].
+    CLAIMANTS = 83;
     /// An answer is so many numbers.
-    FIGURES = 83;
+    FIGURES = 94;
 }
 
 /// So many problems, and so many overlaps, are named in a report.
@@ -73,6 +75,11 @@ pub fn first_lost(kind: Kind) -> usize {
     of_kind(kind, FIRST_LOST, LATER_FIRST_LOST)
 }
 
+/// Where the overlaps are counted in which a kind came second.
+pub fn claimant(kind: Kind) -> usize {
+    CLAIMANTS + kind.number() as usize - 1
+}
+
 /// A kind's place, by where its row begins among the base's numbers and where among the later ones.
 fn of_kind(kind: Kind, base: usize, later: usize) -> usize {
     let index = kind.number() as usize - 1;
@@ -89,8 +96,10 @@ mod tests {
 
     #[test]
     fn each_kind_has_places_of_its_own() {
-        let places: Vec<usize> = Kind::ALL.iter().flat_map(|&kind| [lost(kind), first_lost(kind)]).collect();
-        let named = |place| ALL.iter().any(|&(name, at)| at == place && !name.ends_with("LOST"));
+        let of = |kind| [lost(kind), first_lost(kind), claimant(kind)];
+        let places: Vec<usize> = Kind::ALL.iter().flat_map(|&kind| of(kind)).collect();
+        let is_row = |name: &str| name.ends_with("LOST") || name == "CLAIMANTS";
+        let named = |place| ALL.iter().any(|&(name, at)| at == place && !is_row(name));
         for (i, &place) in places.iter().enumerate() {
             assert!(place < FIGURES && !named(place) && !places[..i].contains(&place), "place {place}");
         }
@@ -101,5 +110,10 @@ mod tests {
         let of = |kind| (lost(kind), first_lost(kind));
         assert_eq!((of(Kind::ContainerSuperblock), of(Kind::FreeQueue)), ((59, 68), (67, 76)));
         assert_eq!((of(Kind::ExtentNode), of(Kind::SnapshotNode)), ((79, 81), (80, 82)));
+    }
+
+    #[test]
+    fn claimants_are_one_row() {
+        assert_eq!((claimant(Kind::ContainerSuperblock), claimant(Kind::SnapshotNode)), (83, 93));
     }
 }

@@ -32,6 +32,15 @@ pub struct Overlap {
     pub claimant: Kind,
 }
 
+/// Claims of a kind on blocks that something else owns.
+#[derive(Clone, Copy, Debug, PartialEq, Eq)]
+pub struct Claimant {
+    /// Who came second.
+    pub kind: Kind,
+    /// How often.
+    pub count: u64,
+}
+
 /// Blocks that a kind owns and no bitmap marks.
 #[derive(Clone, Copy, Debug, PartialEq, Eq)]
 pub struct Lost {
@@ -62,6 +71,8 @@ pub struct Report {
     pub device_free: u64,
     /// Claims of blocks that something else owns; a block may be claimed more than once.
     pub overlaps: Log<Overlap>,
+    /// The same by who came second, of every kind in the order of their numbers; together they are the overlaps' total.
+    pub claimants: Vec<Claimant>,
     /// Of every kind, in the order of their numbers.
     pub lost: Vec<Lost>,
     /// Blocks that are marked and that nothing claims.
@@ -95,6 +106,7 @@ impl Report {
             wrong_chunks: n[places::WRONG_CHUNKS],
             device_free: n[places::DEVICE_FREE],
             overlaps: log(n[places::OVERLAPS], overlaps.chunks_exact(OVERLAP_NUMBERS).map(overlap)),
+            claimants: Kind::ALL.iter().map(|&kind| Claimant { kind, count: n[places::claimant(kind)] }).collect(),
             lost: Kind::ALL.iter().map(|&kind| lost(n, kind)).collect(),
             leaked: n[places::LEAKED],
             verdict: Verdict::from_number(n[places::VERDICT]).expect("a verdict that has a name"),

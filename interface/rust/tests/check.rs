@@ -1,5 +1,5 @@
 // The 16-block container of document 01's listing, which is also the listing program's input.
-use space_check::places::LATER_LOST;
+use space_check::places::{CLAIMANTS, LATER_LOST};
 use space_check::{block_size, blocks, check, figures, figures_into, Cell, Kind, Lost, Refusal, Verdict, FIGURES};
 
 const CONTAINER: &[u8] = include_bytes!("../../../crates/listing/stdin");
@@ -37,11 +37,36 @@ fn a_lost_and_a_leaked_block() {
 }
 
 #[test]
+fn overlaps_by_claimant() {
+    let mut image = CONTAINER.to_vec();
+    // by the superblock, block 2, the descriptor area is blocks 0 to 2, with the map at place 1, and the data area 1 to 5
+    let superblock = &mut image[2 * 4096..3 * 4096];
+    for (at, number) in [(104, 3), (108, 5), (112, 0), (120, 1), (136, 1)] {
+        superblock[at] = number;
+    }
+    superblock[..8].copy_from_slice(&0x3b16_0135_0296_924f_u64.to_le_bytes());
+    let mut map = vec![0; BLOCKS];
+    let report = check(&image, &mut map).unwrap();
+    assert_eq!((report.verdict, report.overlaps.total, report.lost_blocks()), (Verdict::Inconsistent, 4, 0));
+    assert_eq!(report.claimants.iter().map(|claimant| claimant.kind).collect::<Vec<_>>(), Kind::ALL);
+    let counts: Vec<u64> = report.claimants.iter().map(|claimant| claimant.count).collect();
+    assert_eq!(counts, [0, 1, 2, 0, 1, 0, 0, 0, 0, 0, 0]);
+    let listing = report.listing("disk").to_string();
+    let overlaps = "overlaps   4 blocks claimed by two different things
+  checkpoint descriptor area: 1
+  checkpoint data area: 2
+  internal-pool bitmap ring: 1
+  block 0x0: container superblock and checkpoint descriptor area
+";
+    assert!(listing.contains(overlaps), "{listing}");
+}
+
+#[test]
 fn arrays_of_other_lengths() {
     let mut map = vec![0; BLOCKS];
     let whole = figures(CONTAINER, &mut map);
-    // the numbers of version 0.1.0 are those before the later kinds
-    for length in [0, 1, 28, LATER_LOST, FIGURES - 1, FIGURES, FIGURES + 4] {
+    // the numbers of version 0.1.0 are those before the later kinds, those of 0.3.0 the ones before the claimants
+    for length in [0, 1, 28, LATER_LOST, CLAIMANTS, FIGURES - 1, FIGURES, FIGURES + 4] {
         let (mut array, mut map_again) = (vec![u64::MAX; length], vec![0xff; BLOCKS]);
         figures_into(CONTAINER, &mut map_again, &mut array);
         let kept = vec![u64::MAX; length.saturating_sub(FIGURES)];

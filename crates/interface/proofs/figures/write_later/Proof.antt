@@ -1,4 +1,4 @@
-use Rattle.interface.specs.Figures.{laterFigures}
+use Rattle.interface.proofs.Laws.{later-stored}
 use borrow.Author.Needs.{needs}
 use Rattle.interface.proofs.figures.write_later.Statement.{statement}
 use Rattle.interface.proofs.figures.write_later.Tie as tie
@@ -6,12 +6,17 @@ use Rattle.interface.proofs.figures.write_later.Tie as tie
 put-lost-requires : tie.Need-put-lost-requires
 put-lost-requires c κs = search needs
 
+put-claimants-requires : tie.Need-put-claimants-requires
+put-claimants-requires c κs = search needs
+
 same-length : tie.Need-same-length
 same-length c = search needs
 
 returns : tie.Need-returns
-unfolding laterFigures
-returns c = c .before .before .put-lost .ensures
+returns c =
+    let lost = c .before .before .before .before .before .before .before .before in
+    later-stored (lost .before .before .before .before .args .report) _ _ _ (lost .put-lost .ensures) (c .before .before .put-claimants .ensures)
 
 pub write-later-spec : {M : Type 1} → statement M
-write-later-spec = tie.close (tie.spec put-lost-requires same-length returns)
+write-later-spec =
+    tie.close (tie.spec put-lost-requires put-claimants-requires same-length returns)

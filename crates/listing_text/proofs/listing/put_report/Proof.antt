@@ -1,8 +1,12 @@
 use borrow.Author.Needs.{needs}
-use Rattle.listing_text.specs.Listing.{reportLines}
-use Rattle.listing_text.proofs.Laws.{then, lost-sum, keeps-length}
+use Rattle.listing_text.specs.Lines.{overlapsLine, lostLine}
+use Rattle.listing_text.specs.Listing.{overlapLineOf, reportLines}
+use Rattle.listing_text.proofs.Laws.{then, by-figure, by-total, keeps-length}
 use Rattle.listing_text.proofs.listing.put_report.Statement.{statement}
 use Rattle.listing_text.proofs.listing.put_report.Tie as tie
+
+overlap-total-requires : tie.Need-overlap-total-requires
+overlap-total-requires c κs = search needs
 
 title-line-requires : tie.Need-title-line-requires
 title-line-requires c κs = search needs
@@ -18,6 +22,9 @@ bitmaps-line-requires c κs = search needs
 
 overlaps-line-requires : tie.Need-overlaps-line-requires
 overlaps-line-requires c κs = search needs
+
+claimant-lines-requires : tie.Need-claimant-lines-requires
+claimant-lines-requires c κs = search needs
 
 overlap-lines-requires : tie.Need-overlap-lines-requires
 overlap-lines-requires c κs = search needs
@@ -40,13 +47,14 @@ result-line-requires c κs = search needs
 returns : tie.Need-returns
 unfolding reportLines
 returns c =
-    then _ _ _ _ _ (then _ _ _ _ _ (then _ _ _ _ _ (then _ _ _ _ _ (then _ _ _ _ _ (then _ _ _ _ _ (then _ _ _ _ _ (then _ _ _ _ _ (then _ _ _ _ _ (c .before .before .before .before .before .before .before .before .before .before .before .before .before .before .before .before .before .before .before .before .before .before .before .before .before .before .before .before .before .before .before .before .before .before .before .before .before .before .before .title-line .ensures)
-    (c .before .before .before .before .before .before .before .before .before .before .before .before .before .before .before .before .before .before .before .before .before .before .before .before .before .before .before .before .before .before .before .before .before .before .before .pool-line .ensures))
-    (c .before .before .before .before .before .before .before .before .before .before .before .before .before .before .before .before .before .before .before .before .before .before .before .before .before .before .before .before .before .before .before .problem-lines .ensures))
-    (c .before .before .before .before .before .before .before .before .before .before .before .before .before .before .before .before .before .before .before .before .before .before .before .before .before .before .before .bitmaps-line .ensures))
-    (c .before .before .before .before .before .before .before .before .before .before .before .before .before .before .before .before .before .before .before .before .before .before .before .overlaps-line .ensures))
-    (c .before .before .before .before .before .before .before .before .before .before .before .before .before .before .before .before .before .before .before .overlap-lines .ensures))
-    (lost-sum _ _ _ _ (c .before .before .before .before .before .before .before .before .before .before .before .before .before .before .before .lost-total .ensures) (c .before .before .before .before .before .before .before .before .before .before .before .before .before .before .lost-line .ensures)))
+    then _ _ _ _ _ (then _ _ _ _ _ (then _ _ _ _ _ (then _ _ _ _ _ (then _ _ _ _ _ (then _ _ _ _ _ (then _ _ _ _ _ (then _ _ _ _ _ (then _ _ _ _ _ (then _ _ _ _ _ (c .before .before .before .before .before .before .before .before .before .before .before .before .before .before .before .before .before .before .before .before .before .before .before .before .before .before .before .before .before .before .before .before .before .before .before .before .before .before .before .before .before .before .before .title-line .ensures)
+    (c .before .before .before .before .before .before .before .before .before .before .before .before .before .before .before .before .before .before .before .before .before .before .before .before .before .before .before .before .before .before .before .before .before .before .before .before .before .before .before .pool-line .ensures))
+    (c .before .before .before .before .before .before .before .before .before .before .before .before .before .before .before .before .before .before .before .before .before .before .before .before .before .before .before .before .before .before .before .before .before .before .before .problem-lines .ensures))
+    (c .before .before .before .before .before .before .before .before .before .before .before .before .before .before .before .before .before .before .before .before .before .before .before .before .before .before .before .before .before .before .before .bitmaps-line .ensures))
+    (by-figure overlapsLine _ _ _ _ (c .before .before .before .before .before .before .before .before .before .before .before .before .before .before .before .before .before .before .before .before .before .before .before .before .before .before .before .before .before .before .before .before .before .before .before .before .before .before .before .before .before .before .before .before .before .overlap-total .ensures) (c .before .before .before .before .before .before .before .before .before .before .before .before .before .before .before .before .before .before .before .before .before .before .before .before .before .before .before .overlaps-line .ensures)))
+    (c .before .before .before .before .before .before .before .before .before .before .before .before .before .before .before .before .before .before .before .before .before .before .before .claimant-lines .ensures))
+    (by-total overlapLineOf _ _ _ _ _ (c .before .before .before .before .before .before .before .before .before .before .before .before .before .before .before .before .before .before .before .before .before .before .before .before .before .before .before .before .before .before .before .before .before .before .before .before .before .before .before .before .before .before .before .before .before .overlap-total .ensures) (c .before .before .before .before .before .before .before .before .before .before .before .before .before .before .before .before .before .before .before .overlap-lines .ensures)))
+    (by-figure lostLine _ _ _ _ (c .before .before .before .before .before .before .before .before .before .before .before .before .before .before .before .lost-total .ensures) (c .before .before .before .before .before .before .before .before .before .before .before .before .before .before .lost-line .ensures)))
     (c .before .before .before .before .before .before .before .before .before .before .lost-lines .ensures))
     (c .before .before .before .before .before .before .leaked-line .ensures))
     (c .before .before .result-line .ensures)
@@ -58,11 +66,13 @@ pub put-report-spec : {M : Type 1} → statement M
 put-report-spec =
     tie.close
     (tie.spec
+    overlap-total-requires
     title-line-requires
     pool-line-requires
     problem-lines-requires
     bitmaps-line-requires
     overlaps-line-requires
+    claimant-lines-requires
     overlap-lines-requires
     lost-total-requires
     lost-line-requires

@@ -1,26 +1,38 @@
+use mathlib.Core.Path.{sym, _∙_}
 use mathlib.Core.Logic.{⊎-elim}
+use Rattle.report.proofs.Laws.{note-room, note-full, overlap-more, overlap-refused}
 use borrow.Author.Needs.{needs}
-use Rattle.report.specs.Report.{addOverlap}
-use Rattle.report.proofs.Laws.{note-room, note-full, count-more, count-refused}
 use Rattle.report.proofs.logs.add_overlap.Statement.{statement}
 use Rattle.report.proofs.logs.add_overlap.Tie as tie
 
+overlap-total-requires : tie.Need-overlap-total-requires
+overlap-total-requires c κs = search needs
+
 returns : tie.Need-returns
-unfolding addOverlap
-returns c = count-refused _ _ _ (c .if1 .taken)
+returns c = overlap-refused _ _ _ (c .before .overlap-total .ensures) (c .if1 .taken)
 
-mul-overlap : tie.Need-mul-overlap
-mul-overlap c = search needs
+mul-first : tie.Need-mul-first
+mul-first c = search needs
 
-element-set-from-overlap : tie.Need-element-set-from-overlap
-element-set-from-overlap c = search needs
+array-set-from-first : tie.Need-array-set-from-first
+array-set-from-first c = search needs
 
-add-next : tie.Need-add-next
-add-next c = search needs
+count-claimant-requires : tie.Need-count-claimant-requires
+count-claimant-requires c κs = search needs
 
 returns-2 : tie.Need-returns-2
-unfolding addOverlap
-returns-2 c = count-more _ _ _ (search needs) (⊎-elim (λ w. rw (w .1, note-room _ _ _ (w .0 .taken))) (λ w. rw (w .1, note-full _ _ _ (w .0 .left))) (c .if2 .came)) _
+returns-2 c =
+    let given = c .before .before .before .before .before .before .args in
+    overlap-more (given .overlap) (given .log) _ (c .before .before .before .before .overlap-total .ensures) _ _ (c .before .before .before .if1 .left) (c .count-claimant .ensures)
+    (⊎-elim (λ w. w .1 ∙ sym (note-room _ _ _ (w .0 .taken))) (λ w. w .1 ∙ sym (note-full _ _ _ (w .0 .left))) (c .before .if2 .came))
 
 pub add-overlap-spec : {M : Type 1} → statement M
-add-overlap-spec = tie.close (tie.spec returns mul-overlap element-set-from-overlap add-next returns-2)
+add-overlap-spec =
+    tie.close
+    (tie.spec
+    overlap-total-requires
+    returns
+    mul-first
+    array-set-from-first
+    count-claimant-requires
+    returns-2)

@@ -7,7 +7,7 @@ use Rattle.report.proofs.logs.add_problem.Tie as tie
 
 returns : tie.Need-returns
 unfolding addProblem
-returns c = count-refused _ _ _ (c .if1 .taken)
+returns c = count-refused _ _ _ (search needs)
 
 mul-problem : tie.Need-mul-problem
 mul-problem c = search needs

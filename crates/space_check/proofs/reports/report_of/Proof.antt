@@ -1,3 +1,4 @@
+use Rattle.totals.proofs.Laws.{verdict-most}
 use Rattle.space_check.specs.Check.{reportOf}
 use mathlib.Core.Path.{refl}
 use borrow.Author.Needs.{needs}
@@ -13,14 +14,26 @@ unused-requires c κs = search needs
 u64-of-requires : tie.Need-u64-of-requires
 u64-of-requires c κs = search needs
 
+overlap-total-requires : tie.Need-overlap-total-requires
+overlap-total-requires c κs = search needs
+
 verdict-requires : tie.Need-verdict-requires
 verdict-requires c κs = search needs
 
 returns : tie.Need-returns
 unfolding reportOf
-returns c = rw (c .verdict .ensures, c .before .u64-of .ensures .is, c .before .before .unused .ensures, c .before .before .before .before .before .count-blocks .ensures) refl
+returns c =
+    rw (
+      c .verdict .ensures,
+      c .before .overlap-total .ensures,
+      verdict-most,
+      c .before .before .u64-of .ensures .is,
+      c .before .before .before .unused .ensures,
+      c .before .before .before .before .before .before .before .count-blocks .ensures,
+    )
+    refl
 
 pub report-of-spec : {M : Type 1} → statement M
 report-of-spec =
     tie.close
-    (tie.spec count-blocks-requires unused-requires u64-of-requires verdict-requires returns)
+    (tie.spec count-blocks-requires unused-requires u64-of-requires overlap-total-requires verdict-requires returns)
