@@ -3,7 +3,7 @@
  * Standard input is one image after another: a line `NAME IMAGE-LENGTH MAP-LENGTH NUMBERS`, the image's bytes, so many numbers of
  * the answer (8 bytes each, in this machine's order), and the block map that the pass leaves of one whose byte i is i mod 251.
  *
- * Each image is run with two fills of the map and with arrays of numbers of five lengths. Numbers are compared as far as they
+ * Each image is run with two fills of the map and with arrays of numbers of six lengths. Numbers are compared as far as they
  * are both stated and given. Prints a line for each image.
  * Exit status: 0 all agree, 1 some differ, 2 nothing to run or input cut short. */
 #include <inttypes.h>
@@ -20,9 +20,11 @@ enum {
     LAST_UNTOUCHED = 11,   /* up to this refusal the map is as handed in */
 };
 
-/* All numbers, more and fewer, and the two lengths of earlier callers: those before the later kinds and before the claimants. */
+/* All numbers, more and fewer, and the three lengths of earlier callers: those before the later kinds, before the claimants and
+ * before the free ring. */
 static const size_t lengths[] = {
     SPACE_CHECK_FIGURES, SPACE_CHECK_FIGURES + 4, SPACE_CHECK_OVERLAPS, SPACE_CHECK_LATER_LOST, SPACE_CHECK_CLAIMANTS,
+    SPACE_CHECK_FREE_RING,
 };
 
 struct image {

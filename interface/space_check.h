@@ -32,7 +32,8 @@ enum {
     SPACE_CHECK_LATER_LOST = 79,  /* blocks owned but unmarked, of kinds 10 and 11 */
     SPACE_CHECK_LATER_FIRST_LOST = 81, /* the first such of each */
     SPACE_CHECK_CLAIMANTS = 83,   /* overlaps by the kind that came second, 1 to 11; they add up to SPACE_CHECK_OVERLAPS */
-    SPACE_CHECK_FIGURES = 94
+    SPACE_CHECK_FREE_RING = 94,   /* blocks of the pool bitmap's ring on the manager's list of unused ones, each once */
+    SPACE_CHECK_FIGURES = 95
 };
 
 /* image: the container's bytes, block 0 first. Only read; nothing may change them during the call.

@@ -10,7 +10,7 @@ from definition import places
 PLACES = places()
 FIGURES = PLACES['FIGURES']
 # as many numbers as answers had before each appending
-EARLIER = PLACES['LATER_LOST'], PLACES['CLAIMANTS']
+EARLIER = PLACES['LATER_LOST'], PLACES['CLAIMANTS'], PLACES['FREE_RING']
 WORDS = {'define', 'image', 'made', 'base', 'length', 'at', 'map', 'level', 'rust', 'answer', 'left', 'chunks', 'chunks-left'}
 
 

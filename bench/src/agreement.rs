@@ -48,6 +48,17 @@ pub fn sound(figures: &Figures, unnoted: u64) -> Result<(), String> {
     }
 }
 
+/// The proved pass went along all `unused` blocks that the manager lists in the ring of the pool's bitmap. The original
+/// doesn't read that list.
+pub fn went_along(figures: &Figures, unused: u64) -> Result<(), String> {
+    match figures[places::FREE_RING] {
+        visited if visited == unused => Ok(()),
+        visited => {
+            Err(format!("the proved pass went along {visited} unused blocks of the ring, and there are {unused}"))
+        }
+    }
+}
+
 #[cfg(test)]
 mod tests {
     use std::sync::Arc;
@@ -58,7 +69,8 @@ mod tests {
     use crate::scratch::Scratch;
     use crate::synthetic::{write, Form};
 
-    const SMALL: Form = Form { blocks: 1 << 17, bitmap_every: 1, queued: 900, mapped: 300, volumes: 3, seed: 1 };
+    const SMALL: Form =
+        Form { blocks: 1 << 17, bitmap_every: 1, queued: 900, mapped: 300, volumes: 3, ring: None, seed: 1 };
 
     fn pass(name: &str, form: Form) -> (Arc<Mapping>, Proved) {
         let scratch = Scratch::new(name, 0).unwrap();
@@ -103,6 +115,16 @@ mod tests {
             figures[at] += 1;
             assert!(sound(&figures, free).is_err(), "figure {at}");
         }
+    }
+
+    #[test]
+    fn a_long_ring_is_gone_along() {
+        let form = Form { blocks: 1 << 18, volumes: 0, ring: Some(65_535), ..SMALL };
+        let (image, pass) = pass("ring", form);
+        assert_eq!(agree(&pass.figures, pass.map.bytes(), &original(&image)), Ok(()));
+        assert_eq!(form.unused(), 65_534);
+        assert_eq!(went_along(&pass.figures, form.unused()), Ok(()));
+        assert!(went_along(&pass.figures, form.unused() + 1).is_err());
     }
 
     #[test]

@@ -5,7 +5,7 @@ use std::sync::Arc;
 
 use compare::oracle::NUMBERS;
 
-use crate::agreement::{agree, sound};
+use crate::agreement::{agree, sound, went_along};
 use crate::memory::{Mapping, Pages};
 use crate::passes::{original, proved, time_original, time_proved};
 use crate::table::{Growth, Memory, Row};
@@ -19,6 +19,8 @@ pub struct Subject {
     pub bar: Option<f64>,
     /// The original misreads it, and isn't run.
     pub misread: bool,
+    /// Blocks of the ring of its pool's bitmap that are listed as unused.
+    pub unused: u64,
 }
 
 /// What was measured of all containers.
@@ -42,6 +44,16 @@ impl Measured {
         self.best(subject, &image, blocks)
     }
 
+    /// How the time grew from the first half of the rows since row `first` to the second.
+    pub fn grown_from(&mut self, first: usize) {
+        let rows = &self.times[first..];
+        let (halves, wholes) = rows.split_at(rows.len() / 2);
+        for (half, whole) in halves.iter().zip(wholes) {
+            let ratio = whole.proved / half.proved;
+            self.growth.push(Growth { what: whole.what.clone(), pages: whole.pages, ratio });
+        }
+    }
+
     fn answers(&mut self, subject: &Subject, image: &Arc<Mapping>, blocks: usize) -> Result<(), String> {
         // Before the original: the stack that it leaves in memory would hide what a proved pass takes.
         let pass = |pages| proved(image.bytes(), blocks, pages).map_err(|e| e.to_string());
@@ -53,6 +65,7 @@ impl Measured {
                 Some(original) => agree(&pass.figures, pass.map.bytes(), original)?,
                 None => sound(&pass.figures, blocks as u64 - noted)?,
             }
+            went_along(&pass.figures, subject.unused)?;
             self.memory.push(Memory {
                 what: subject.what.clone(),
                 pages,

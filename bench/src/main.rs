@@ -20,15 +20,15 @@ use container::{Measured, Subject, BLOCK};
 use memory::{Mapping, Pages};
 use scratch::Scratch;
 use synthetic::Form;
-use table::Growth;
 
-const USAGE: &str = "usage: bench [checksum] [mkapfs] [dense] [volumes] [large]    measure, all five if none is named
-       bench write dense GIBIBYTES FILE                       only write a dense container
-       bench write volumes GIBIBYTES FILE                     only write a dense one with volumes
-       bench write large TEBIBYTES FILE                       only write a large one, with address blocks from 4 TiB on
-       bench pass FILE RUNS                                   only run the proved pass, for a profiler";
+const USAGE: &str = "usage: bench [checksum] [mkapfs] [dense] [volumes] [ring] [large]    measure, all six if none is named
+       bench write dense GIBIBYTES FILE                              only write a dense container
+       bench write volumes GIBIBYTES FILE                            only write a dense one with volumes
+       bench write ring BLOCKS FILE                                  only write one whose pool's bitmap has such a ring
+       bench write large TEBIBYTES FILE                              only write a large one, with address blocks from 4 TiB on
+       bench pass FILE RUNS                                          only run the proved pass, for a profiler";
 
-const PARTS: [&str; 5] = ["checksum", "mkapfs", "dense", "volumes", "large"];
+const PARTS: [&str; 6] = ["checksum", "mkapfs", "dense", "volumes", "ring", "large"];
 
 /// Blocks in a gibibyte and in a tebibyte.
 const GIBIBYTE: u64 = (1 << 30) / BLOCK as u64;
@@ -43,6 +43,10 @@ const DENSE_BAR: f64 = 4.0;
 const DENSE_RUNS: usize = 30;
 /// The same for dense containers with volumes.
 const VOLUMES_BAR: f64 = 3.0;
+/// Rings of the pool's bitmap: the longest of which 0xffff is no index, and before it one of half its blocks, to show how
+/// the time grows.
+const RING_BLOCKS: [u64; 2] = [32_767, 65_535];
+const RING_RUNS: usize = 30;
 /// Large containers, with address blocks; the second is twice the first, to show how the time grows.
 const LARGE_TEBIBYTES: [u64; 2] = [4, 8];
 const LARGE_RUNS: usize = 5;
@@ -53,6 +57,7 @@ fn main() -> ExitCode {
     let ended = match arguments[..] {
         ["write", "dense", gibibytes, file] => write(dense_form, gibibytes, file),
         ["write", "volumes", gibibytes, file] => write(volumes_form, gibibytes, file),
+        ["write", "ring", blocks, file] => write(ring_form, blocks, file),
         ["write", "large", tebibytes, file] => write(large_form, tebibytes, file),
         ["pass", file, runs] => pass(file, runs),
         ref parts if parts.iter().all(|part| PARTS.contains(part)) => measure(parts),
@@ -83,6 +88,9 @@ fn measure(parts: &[&str]) -> Result<(), String> {
     if wanted("volumes") {
         dense(&mut measured, volumes_form, VOLUMES_BAR)?;
     }
+    if wanted("ring") {
+        ring(&mut measured)?;
+    }
     if wanted("large") {
         large(&mut measured)?;
     }
@@ -102,12 +110,12 @@ fn real(measured: &mut Measured) -> Result<(), String> {
         return Ok(());
     };
     for (blocks, bar) in MKAPFS_BLOCKS.into_iter().zip([Some(MKAPFS_BAR), None]) {
-        let (scratch, completed) = mkapfs::make(&program, blocks).map_err(|e| e.to_string())?;
+        let mkapfs::Made { scratch, completed, unused } = mkapfs::make(&program, blocks).map_err(|e| e.to_string())?;
         let what = format!("mkapfs, {:.2} TiB", blocks as f64 / TEBIBYTE as f64);
         if completed {
             println!("{what}: the pool's bitmap was a block short, and is completed");
         }
-        measured.add(Subject { what, runs: MKAPFS_RUNS, bar, misread: false }, &scratch.file)?;
+        measured.add(Subject { what, runs: MKAPFS_RUNS, bar, misread: false, unused }, &scratch.file)?;
     }
     Ok(())
 }
@@ -122,31 +130,44 @@ fn dense(measured: &mut Measured, form: fn(u64) -> Form, bar: f64) -> Result<(),
             0 => format!("dense, {gibibytes} GiB, {} queued", 2 * form.queued),
             volumes => format!("dense, {gibibytes} GiB, {volumes} volumes"),
         };
-        measured.add(Subject { what, runs: DENSE_RUNS, bar, misread: false }, &scratch.file)?;
+        let subject = Subject { what, runs: DENSE_RUNS, bar, misread: false, unused: form.unused() };
+        measured.add(subject, &scratch.file)?;
     }
+    Ok(())
+}
+
+/// No bar beside the original, which has less to do: it doesn't read the list of unused blocks.
+fn ring(measured: &mut Measured) -> Result<(), String> {
+    let first = measured.times.len();
+    for blocks in RING_BLOCKS {
+        let form = ring_form(blocks);
+        let scratch = made(&format!("ring-{blocks}"), form)?;
+        let what = format!("ring of {blocks} blocks");
+        let subject = Subject { what, runs: RING_RUNS, bar: None, misread: false, unused: form.unused() };
+        measured.add(subject, &scratch.file)?;
+    }
+    println!("rings: the proved pass alone goes along the list of unused blocks, which the original does not read");
+    measured.grown_from(first);
     Ok(())
 }
 
 fn large(measured: &mut Measured) -> Result<(), String> {
     let first = measured.times.len();
     for tebibytes in LARGE_TEBIBYTES {
-        let scratch = made(&format!("large-{tebibytes}"), large_form(tebibytes))?;
+        let form = large_form(tebibytes);
+        let scratch = made(&format!("large-{tebibytes}"), form)?;
         let what = format!("large, {tebibytes} TiB, address blocks");
-        measured.add(Subject { what, runs: LARGE_RUNS, bar: None, misread: true }, &scratch.file)?;
+        let subject = Subject { what, runs: LARGE_RUNS, bar: None, misread: true, unused: form.unused() };
+        measured.add(subject, &scratch.file)?;
     }
-    let rows = &measured.times[first..];
-    let (halves, wholes) = rows.split_at(rows.len() / 2);
-    for (half, whole) in halves.iter().zip(wholes) {
-        let ratio = whole.proved / half.proved;
-        measured.growth.push(Growth { what: whole.what.clone(), pages: whole.pages, ratio });
-    }
+    measured.grown_from(first);
     Ok(())
 }
 
 /// The queues grow with the container, to 100,000 entries each at 64 GiB.
 fn dense_form(gibibytes: u64) -> Form {
     let blocks = gibibytes * GIBIBYTE;
-    Form { blocks, bitmap_every: 1, queued: gibibytes * 100_000 / 64, mapped: 20_000, volumes: 0, seed: 1 }
+    Form { blocks, bitmap_every: 1, queued: gibibytes * 100_000 / 64, mapped: 20_000, volumes: 0, ring: None, seed: 1 }
 }
 
 /// As many volumes as a container can list.
@@ -154,10 +175,15 @@ fn volumes_form(gibibytes: u64) -> Form {
     Form { volumes: MOST_VOLUMES, ..dense_form(gibibytes) }
 }
 
+/// All else is small, so that the ring weighs most.
+fn ring_form(blocks: u64) -> Form {
+    Form { mapped: 1000, ring: Some(blocks), ..dense_form(1) }
+}
+
 /// Bitmaps are so few that most of the map's pages stay untouched; the queues fit the first chunk.
 fn large_form(tebibytes: u64) -> Form {
     let blocks = tebibytes * TEBIBYTE;
-    Form { blocks, bitmap_every: 1024, queued: tebibytes * 250, mapped: 20_000, volumes: 0, seed: 1 }
+    Form { blocks, bitmap_every: 1024, queued: tebibytes * 250, mapped: 20_000, volumes: 0, ring: None, seed: 1 }
 }
 
 fn made(name: &str, form: Form) -> Result<Scratch, String> {

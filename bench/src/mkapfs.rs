@@ -16,12 +16,22 @@ const BITMAP_BITS: u64 = 8 * BLOCK as u64;
 /// mkapfs keeps the list of bitmap indices in 8 bytes.
 const INDEX_ROOM: u64 = 4;
 
-/// A container of so many blocks, and whether its pool's bitmap had to be completed.
-pub fn make(program: &Path, blocks: u64) -> io::Result<(Scratch, bool)> {
+pub struct Made {
+    pub scratch: Scratch,
+    /// The pool's bitmap had to be completed.
+    pub completed: bool,
+    /// Blocks of its ring that aren't in use, and so are listed as unused.
+    pub unused: u64,
+}
+
+/// A container of so many blocks.
+pub fn make(program: &Path, blocks: u64) -> io::Result<Made> {
     let scratch = Scratch::new(&format!("mkapfs-{blocks}"), blocks * BLOCK as u64)?;
     compare::mkapfs::make(program, &scratch.path)?;
     let completed = complete_pool_bitmap(&scratch.file)?;
-    Ok((scratch, completed))
+    let block = read(&scratch.file, manager(&scratch.file)?)?;
+    let unused = m::BITMAP_RING.of(&block) - m::BITMAP_SLOTS.of(&block);
+    Ok(Made { scratch, completed, unused })
 }
 
 /// Some versions give every pool one bitmap block, which is too small from 32,769 pool blocks on: the original panics

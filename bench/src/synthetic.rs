@@ -1,6 +1,7 @@
 //! A synthetic container in a sparse file, from a seed alone: dense bitmaps, an object map of three levels, long queues,
-//! volumes where they are wanted, and address blocks where it is large. It is consistent: whatever is claimed is marked,
-//! and nothing is claimed twice.
+//! volumes and a long ring of the pool's bitmap where they are wanted, and address blocks where it is large. It is
+//! consistent: whatever is claimed is marked, nothing is claimed twice, and what of the ring is in use isn't listed as
+//! unused.
 
 mod address_blocks;
 mod bitmaps;
@@ -38,6 +39,9 @@ pub struct Form {
     pub mapped: u64,
     /// So many of the mapped blocks are volumes that the container's superblock lists.
     pub volumes: u64,
+    /// Blocks of the ring of the pool's bitmap, with a scattered list of the unused ones. Where none is wanted, the ring
+    /// is twice as long as the bitmap.
+    pub ring: Option<u64>,
     pub seed: u64,
 }
 
@@ -73,6 +77,21 @@ impl Form {
         self.own_blocks() + POOL_SLOT * self.queued
     }
 
+    /// Blocks of the pool's bitmap.
+    fn pool_bitmaps(&self) -> u64 {
+        Bits::blocks(self.pool_blocks())
+    }
+
+    /// Blocks of the ring that these stand in.
+    fn ring_blocks(&self) -> u64 {
+        self.ring.unwrap_or(2 * self.pool_bitmaps())
+    }
+
+    /// Blocks of that ring that the manager lists as unused: all others.
+    pub fn unused(&self) -> u64 {
+        self.ring_blocks() - self.pool_bitmaps()
+    }
+
     /// Blocks of the volumes besides their superblocks.
     fn volume_blocks(&self) -> u64 {
         self.volumes * volumes::blocks_each()
@@ -82,7 +101,9 @@ impl Form {
 /// Where the parts stand, one after the other from block 1 on.
 struct Places {
     descriptors: u64,
+    /// The manager, at the start of the data area, and behind it the queues' nodes.
     data: u64,
+    queues: u64,
     bitmap_ring: u64,
     /// The pool, and the chunks' bitmaps.
     pool: u64,
@@ -94,18 +115,19 @@ struct Places {
 }
 
 impl Places {
-    /// The rings are twice as long as one checkpoint needs them.
+    /// The areas of the checkpoint are twice as long as one needs them.
     fn of(form: &Form) -> Self {
         let descriptors = 1;
         let data = descriptors + 2 * (checkpoint::map_blocks(form) + 1);
-        let bitmap_ring = data + 2 * (1 + 2 * form.queue_nodes());
-        let pool = bitmap_ring + 2 * Bits::blocks(form.pool_blocks());
+        let queues = data + manager::blocks(form);
+        let bitmap_ring = data + 2 * (manager::blocks(form) + 2 * form.queue_nodes());
+        let pool = bitmap_ring + form.ring_blocks();
         let infos = pool + form.bitmaps();
         let address_blocks = infos + form.infos();
         let object_map = pool + form.pool_blocks();
         let nodes = object_map + 1;
         let end = nodes + trees::nodes(form.mapped);
-        Places { descriptors, data, bitmap_ring, pool, infos, address_blocks, object_map, nodes, end }
+        Places { descriptors, data, queues, bitmap_ring, pool, infos, address_blocks, object_map, nodes, end }
     }
 }
 

@@ -26,11 +26,11 @@ pub fn print_times(rows: &[Row]) {
     }
 }
 
-/// How the proved time grows with the container.
+/// How the proved time grows with the container, or with its ring.
 pub struct Growth {
     pub what: String,
     pub pages: Option<Pages>,
-    /// This container's time beside that of one of half its size.
+    /// This container's time beside that of one of half its size, or with half its ring.
     pub ratio: f64,
 }
 
@@ -38,7 +38,7 @@ pub struct Growth {
 const GROWTH_BAR: f64 = 2.2;
 
 pub fn print_growth(rows: &[Growth]) {
-    println!("\nproved time beside that of a container of half the size; the bar: at most {GROWTH_BAR}");
+    println!("\nproved time beside that of a container of half the size, or with half the ring; the bar: at most {GROWTH_BAR}");
     println!("{:<30} {:>10} {:>7}  bar", "what", "map pages", "ratio");
     for row in rows {
         let (pages, said) = (row.pages.map_or("", Pages::name), met(row.ratio <= GROWTH_BAR));

@@ -60,6 +60,7 @@ fn of_report(report: &Report) -> Value {
         "xid": report.xid,
         "pool_used": report.pool_used,
         "pool_unused": report.pool_unused,
+        "free_ring": report.free_ring,
         "problems": { "total": report.problems.total, "first": all(&report.problems.first, of_problem) },
         "free": report.free,
         "wrong_chunks": report.wrong_chunks,

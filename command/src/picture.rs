@@ -126,7 +126,7 @@ impl Cells {
     }
 }
 
-/// The blocks that the report names, each once. One of the pool may lie past the container.
+/// The blocks that the report names, each once. One of the pool, or of the ring of its bitmap, may lie past the container.
 fn named(report: &Report) -> BTreeMap<u64, Class> {
     let problems = report.problems.first.iter().map(|problem| (problem.block, PROBLEM));
     // the louder one comes last, and stays

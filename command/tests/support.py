@@ -55,6 +55,29 @@ def claimed_twice():
     return image
 
 
+# the head, and the tail, of an empty list of unused blocks
+NO_INDEX = 0xffff
+
+
+def bitmap_ring(head, tail, following, table=354):
+    """The sample with a ring of blocks 10 to 13 for the pool's bitmap, which stands in 12, and a list of unused blocks there: its
+    head, its tail and the index that follows each; the table of these is at a byte of the manager, block 3."""
+    image = sample()
+    pool_bitmap, image[5 * BLOCK:6 * BLOCK] = image[5 * BLOCK:6 * BLOCK], bytes(BLOCK)
+    image[12 * BLOCK:13 * BLOCK] = pool_bitmap
+    # blocks 5, 14 and 15 are free, of the chunk that block 6 lists, and of the device
+    struct.pack_into('<H', image, BITMAP, 0b0011_1111_1101_1111)
+    struct.pack_into('<I', image, 6 * BLOCK + 60, 3)
+    manager = image[3 * BLOCK:4 * BLOCK]
+    struct.pack_into('<Q', manager, 72, 3)
+    struct.pack_into('<IQ', manager, 164, 4, 10)
+    struct.pack_into('<HH', manager, 320, head, tail)
+    struct.pack_into('<I', manager, 332, table)
+    struct.pack_into('<5H', manager, 352, 2, *following)
+    image[3 * BLOCK:4 * BLOCK] = seal(manager)
+    return image
+
+
 # what numbers and names must be, from what is proved and not from the code under test
 KINDS = definition.kinds()
 PROBLEMS = definition.problems()
@@ -72,9 +95,14 @@ def figure(v, name):
     return v['answer'][PLACES[name]]
 
 
+def problems(v):
+    """The problems that an image's answer names, each number and block."""
+    named = v['answer'][PLACES['PROBLEM']:PLACES['FREE']]
+    return list(zip(named[::2], named[1::2]))[:figure(v, 'PROBLEMS')]
+
+
 def problem_blocks(v):
-    """The blocks of the problems that an image's answer names."""
-    return v['answer'][PLACES['PROBLEM'] + 1:PLACES['FREE']:2][:figure(v, 'PROBLEMS')]
+    return [block for _, block in problems(v)]
 
 
 def overlap_blocks(v):
@@ -83,7 +111,7 @@ def overlap_blocks(v):
 
 def claimants(v):
     """How often each kind came second, by its number, in an image's answer."""
-    return dict(zip(KINDS, v['answer'][PLACES['CLAIMANTS']:FIGURES]))
+    return dict(zip(KINDS, v['answer'][PLACES['CLAIMANTS']:PLACES['FREE_RING']]))
 
 
 def known(path=os.path.join(ROOT, 'compare', 'answers', 'list.txt')):

@@ -1,18 +1,22 @@
 """Every image of the fixed list, whose answers are the original's, through the command: JSON, listing and block map."""
 import os
+import re
 import struct
 import subprocess
 import unittest
 
-from support import (BASE_KINDS, CONSISTENT, FIGURES, INCONSISTENT, KINDS, LOGGED, OPERATORS_PAGE, PLACES, PROBLEMS, REFUSALS,
-                     REFUSED, ROOT, SAMPLE, WITHDRAWN, CommandTest, claimants, claimed_twice, figure, known, lost_and_leaked,
-                     numbered, page_rows)
+from support import (BASE_KINDS, BLOCK, CONSISTENT, FIGURES, INCONSISTENT, KINDS, LOGGED, NO_INDEX, OPERATORS_PAGE, PLACES,
+                     PROBLEMS, REFUSALS, REFUSED, ROOT, SAMPLE, WITHDRAWN, CommandTest, bitmap_ring, claimants, claimed_twice,
+                     figure, known, lost_and_leaked, numbered, page_rows, problems)
 
 LISTING = os.path.join(ROOT, 'target', 'bin', 'listing')
 
 # the page's rows of problems: line, number, and the name that JSON alone has
 PROBLEM_ROWS = {int(number): (line, name) for line, number, name in page_rows(r'`([^`]*)` \| (\d+), (.*?)')}
 REPORTED = {'consistent': (1, CONSISTENT), 'inconsistent': (2, INCONSISTENT)}
+
+# of the list of unused blocks of the pool bitmap's ring
+FREE_RING_PROBLEMS = (7, 8)
 
 # powers of 2 and of 10 with their neighbours, numbers with zeros inside, and of one digit throughout
 NUMBERS = sorted(n for n in {base ** k + more for base in (2, 10) for k in range(65) for more in (-1, 0, 1)}
@@ -31,7 +35,7 @@ def figures(answer):
         put('REFUSAL', answer['refusal']['number'])
         return found
     r = answer['report']
-    for name in 'xid', 'pool_used', 'pool_unused', 'free', 'wrong_chunks', 'device_free', 'leaked':
+    for name in 'xid', 'pool_used', 'pool_unused', 'free_ring', 'free', 'wrong_chunks', 'device_free', 'leaked':
         put(name.upper(), r[name])
     put('PROBLEMS', r['problems']['total'])
     put('PROBLEM', *(n for p in r['problems']['first'] for n in (p['number'], p['block'])))
@@ -144,6 +148,23 @@ class Answers(CommandTest):
         # the first kind never comes second
         self.assertEqual(met, {*KINDS} - {1})
 
+    def test_problems_of_the_free_ring_in_the_list(self):
+        """They come before all others, each block in use once, and what is met again ends the list."""
+        met, longest = set(), 0
+        for v in known():
+            named, visited = problems(v), figure(v, 'FREE_RING')
+            ring = [problem for problem in named if problem[0] in FREE_RING_PROBLEMS]
+            numbers = [number for number, _ in ring]
+            with self.subTest(v['name']):
+                self.assertEqual(named[:len(ring)], ring)
+                self.assertEqual((numbers, len({*ring})), (sorted(numbers), len(ring)))
+                self.assertLessEqual(numbers.count(8), 1)
+                self.assertGreaterEqual(visited, max(numbers.count(number) for number in FREE_RING_PROBLEMS))
+            met |= {*numbers}
+            longest = max(longest, visited)
+        self.assertEqual(met, {*FREE_RING_PROBLEMS})
+        self.assertGreater(longest, 1)
+
     def proved_lines(self, image):
         """What the program crates/listing prints, whose text is proved."""
         self.assertTrue(os.path.exists(LISTING), '`rt check listing` makes the program')
@@ -207,6 +228,55 @@ class Answers(CommandTest):
                          [{'number': 2, 'name': 'checkpoint descriptor area', 'count': 1},
                           {'number': 3, 'name': 'checkpoint data area', 'count': 2},
                           {'number': 5, 'name': 'internal-pool bitmap ring', 'count': 1}])
+
+    def test_lists_of_unused_bitmap_blocks(self):
+        """The ring is blocks 10 to 13, of which 12 is in use."""
+        for head, tail, following, visited, found in [
+                (3, 1, (1, NO_INDEX, NO_INDEX, 0), 3, []),
+                (1, 1, (4, 4, 4, 4), 1, []),  # of one index, whatever follows it
+                (NO_INDEX, 0, (4, 4, 4, 4), 0, []),  # empty, whatever its tail
+                (3, 0, (1, 1, 0, 2), 3, [(7, 12)]),
+                (3, 2, (2, 2, 2, 0), 3, [(7, 12)]),  # the tail is in use
+                (3, 1, (3, 1, 1, 0), 2, [(8, 13)]),  # back to the head
+                (0, 2, (1, 3, 2, 1), 3, [(8, 11)]),
+                (3, 1, (2, 1, 2, 0), 3, [(7, 12), (8, 12)])]:  # in use, and then met again
+            image = self.write('stdin', bitmap_ring(head, tail, following))
+            expected = [
+                'space check  stdin  xid 7',
+                f'internal pool  2 blocks in use, 0 marked but unused, {len(found)} problems',
+                *(f'  problem {number} at {hex(block)}' for number, block in found),
+                'bitmaps    3 blocks free; chunks with a wrong free count: 0; device free count 3 (matches)',
+                'overlaps   0 blocks claimed by two different things',
+                'in use but marked free: 0 blocks',
+                'allocated but unused (leaked): 0 blocks',
+                'result     inconsistent' if found else
+                'result     consistent: nothing in use is marked free, nothing is claimed twice']
+            with self.subTest(head=head, tail=tail, following=following):
+                status, out, err = self.run_command(image)
+                self.assertEqual((status, out.splitlines(), err), (INCONSISTENT if found else CONSISTENT, expected, ''))
+                self.assertEqual(self.proved_lines(image), out)
+                answer = self.json_of(image)
+                self.names_agree(answer)
+                report = answer['report']
+                self.assertEqual((report['free_ring'], report['problems']['total']), (visited, len(found)))
+                self.assertEqual([(p['number'], p['block']) for p in report['problems']['first']], found)
+        keys = re.search(r'^\| `report` \| (.*?) \(', OPERATORS_PAGE, re.MULTILINE)[1]
+        self.assertEqual(', '.join(f'`{key}`' for key in report), keys)
+
+    def test_refused_lists_of_unused_bitmap_blocks(self):
+        """An index past the ring's end, wherever it is met; and a table past the manager's end, of an empty list too."""
+        empty = NO_INDEX, NO_INDEX, (0, 0, 0, 0)
+        for number, ring in [(25, (4, 4, (0, 0, 0, 0))), (25, (3, 1, (4, 0, 0, 0))), (25, (3, 1, (NO_INDEX, 0, 0, 0))),
+                             (25, (2, 1, (NO_INDEX, 0, 0, 0))), (17, (*empty, BLOCK - 7)), (17, (*empty, 2 ** 32 - 1))]:
+            image = self.write('stdin', bitmap_ring(*ring))
+            with self.subTest(ring):
+                status, out, err = self.run_command(image, '--map', 'map')
+                self.assertEqual((status, out), (REFUSED, f'refused {number}\n'))
+                self.assertIn(f'stdin: refused {number}: ', err)
+                self.assertEqual((self.proved_lines(image), os.listdir(self.folder)), (out, [image]))
+                self.assertEqual(self.json_of(image)['refusal']['number'], number)
+        # the table may end where the manager does
+        self.assertEqual(self.run_command(self.write('stdin', bitmap_ring(*empty, BLOCK - 8)))[0], CONSISTENT)
 
 
 if __name__ == '__main__':

@@ -8,8 +8,8 @@ import time
 import unittest
 import zlib
 
-from support import (BLOCK, COMMAND, CONSISTENT, INCONSISTENT, KINDS, NO_ANSWER, REFUSED, SAMPLE, CommandTest, lost_and_leaked,
-                     sample, slow)
+from support import (BLOCK, COMMAND, CONSISTENT, INCONSISTENT, KINDS, MANAGER, NO_ANSWER, REFUSED, SAMPLE, CommandTest,
+                     lost_and_leaked, sample, seal, slow)
 
 APFS = '7C3457EF-0000-11AA-AA11-00306543ECAC'
 LINUX = '0FC63DAF-8483-4772-8E79-3D69D8477DE4'
@@ -144,6 +144,43 @@ class Files(CommandTest):
         self.assertEqual({block: KINDS.get(cells[block] & 15) for block in owners}, owners)
         leaked = [block for block, cell in enumerate(cells) if cell == 16]
         self.assertEqual([number(block * BLOCK + 28, 4) for block in leaked], [14])
+
+    def test_unused_bitmap_blocks_by_mkapfs(self):
+        """Its manager lists all blocks of the ring but the one in use. Then the list leads through that one, back to its head,
+        and past the ring's end."""
+        image = self.sparse('mkapfs.img', 256 * MIB)
+        self.must('mkapfs', image)
+        content = self.read(image)
+        # an ephemeral object of this kind
+        [at] = (at for at in range(0, len(content), BLOCK) if struct.unpack_from('<I', content, at + 24)[0] == MANAGER | 1 << 31)
+        manager = bytearray(content[at:at + BLOCK])
+        bitmaps, blocks, base = struct.unpack_from('<IIQ', manager, 160)
+        head, tail, indices, table = struct.unpack_from('<HH4xII', manager, 320)
+        [used] = struct.unpack_from(f'<{bitmaps}H', manager, indices)
+        following = struct.unpack_from(f'<{blocks}H', manager, table)
+        unused = [head]
+        while unused[-1] != tail:
+            unused.append(following[unused[-1]])
+        self.assertEqual(sorted([used, *unused]), list(range(blocks)))
+        report = self.json_of(image)['report']
+        self.assertEqual((report['free_ring'], report['problems']['total']), (len(unused), 0))
+        before = unused[-2]
+        for changed, visited, line, status in [
+                ({before: used, used: tail}, blocks, f'  problem 7 at {hex(base + used)}', INCONSISTENT),
+                ({before: head}, len(unused) - 1, f'  problem 8 at {hex(base + head)}', INCONSISTENT),
+                ({before: blocks}, None, 'refused 25', REFUSED)]:
+            damaged = manager[:]
+            for index, to in changed.items():
+                struct.pack_into('<H', damaged, table + 2 * index, to)
+            with open(self.path(image), 'r+b') as file:
+                file.seek(at)
+                file.write(seal(damaged))
+            with self.subTest(line):
+                told, out, _ = self.run_command(image)
+                self.assertEqual((told, [found for found in out.splitlines() if 'problem ' in found or 'refused' in found]),
+                                 (status, [line]))
+                report = self.json_of(image)['report']
+                self.assertEqual(report and (report['free_ring'], report['problems']['total']), visited and (visited, 1))
 
 
 class Places(CommandTest):

@@ -43,6 +43,8 @@ pub struct Report {
     pub lost: ByKind<Lost>,
     pub leaked: u64,
     pub verdict: u64,
+    /// Different indices on the list of the ring's unused blocks.
+    pub free_ring: u64,
 }
 
 #[derive(Clone, Debug, PartialEq, Eq)]
@@ -86,6 +88,7 @@ impl Report {
         }
         numbers[places::LEAKED] = self.leaked;
         numbers[places::VERDICT] = self.verdict;
+        numbers[places::FREE_RING] = self.free_ring;
         numbers
     }
 }
@@ -118,7 +121,7 @@ mod tests {
         report.first_problems[0] = Problem { kind: ProblemKind::BitmapUsed.number(), block: 6 };
         report.first_overlaps = [Overlap { block: 5, owner: 2, claimant: 9 }; LOGGED];
         report.lost[Kind::SnapshotNode.number() as usize - 1] = Lost { count: 3, first: 8 };
-        (report.free, report.leaked) = (4, 10);
+        (report.free, report.leaked, report.free_ring) = (4, 10, 12);
         let numbers = Answer::Reported(Box::new(report)).numbers().try_into().expect("as many as figures");
         let read = Read::of_figures(&numbers).expect("a report");
         assert_eq!(read.problems, Log { total: 1, first: vec![Named { kind: ProblemKind::BitmapUsed, block: 6 }] });
@@ -126,6 +129,7 @@ mod tests {
         let claimants: Vec<_> = read.claimants.iter().filter(|c| c.count != 0).map(|c| (c.kind, c.count)).collect();
         assert_eq!(claimants, [(Kind::DescriptorArea, 1), (Kind::FreeQueue, 10)]);
         assert_eq!((read.xid, read.free, read.leaked, read.verdict), (7, 4, 10, Verdict::Inconsistent));
+        assert_eq!(read.free_ring, 12);
         let last = read.lost.last().expect("a kind");
         assert_eq!((last.kind, last.first), (Kind::SnapshotNode, Some(8)));
     }

@@ -3,16 +3,18 @@
 //! Where the original isn't asked nothing shows that a rule is met too early, but an image on its near side, on which
 //! the original is asked.
 
-use space_check::Refusal;
+use space_check::{ProblemKind, Refusal};
 
 use crate::draft::Draft;
+use crate::fields::manager::NO_INDEX;
 use crate::fields::{mapped, superblock};
 use crate::image::Image;
 use crate::model::{HIGHEST_COUNT, WALK_LEVELS};
 use crate::outside::Outside;
 use crate::recipes::{
-    area_to_end, chain_of, deleted_of_lengths, extent_chain, extent_repeats, first_mapping, map_at, queue_entry,
-    queue_ghost, read_both_ways, repeats_of,
+    area_to_end, before_listed, behind_pool, chain_of, deleted_of_lengths, extent_chain, extent_repeats, first_mapping,
+    free_list, long_ring, map_at, queue_entry, queue_ghost, read_both_ways, repeats_of, ring_before, table_of,
+    table_to_end, unused,
 };
 use crate::rng::Rng;
 use crate::seeds::Base;
@@ -187,6 +189,125 @@ pub const BOUNDARIES: &[Boundary] = &[
         far: |d| deleted_of_lengths(d, mapped::SIZE, mapped::SIZE),
         near_refusal: Some(Refusal::OutsideBytes),
     },
+    Boundary {
+        name: "table",
+        rule: Outside::FreeNextTable,
+        near: |d| table_to_end(d, 0, 1),
+        far: |d| table_to_end(d, 1, 1),
+        near_refusal: None,
+    },
+    Boundary {
+        name: "table of an empty list",
+        rule: Outside::FreeNextTable,
+        near: |d| table_to_end(d, 0, 0),
+        far: |d| table_to_end(d, 1, 0),
+        near_refusal: None,
+    },
+    Boundary {
+        name: "table of no entries",
+        rule: Outside::FreeNextTable,
+        near: |d| table_of(d, 0),
+        far: |d| table_of(d, 1),
+        near_refusal: None,
+    },
+    Boundary {
+        name: "table and pool",
+        rule: Outside::FreeNextTable,
+        near: |d| behind_pool(d, true),
+        far: |d| table_of(d, 1),
+        near_refusal: Some(Refusal::BadBitmap),
+    },
+    Boundary {
+        name: "index",
+        rule: Outside::Added(Refusal::RingIndex),
+        near: |d| free_list(d, 1, |r| Some(r.single(r.ring - 1))),
+        far: |d| free_list(d, 1, |r| Some(r.single(r.ring))),
+        near_refusal: None,
+    },
+    Boundary {
+        name: "head",
+        rule: Outside::Added(Refusal::RingIndex),
+        near: |d| free_list(d, 1, |r| Some(r.single(NO_INDEX))),
+        far: |d| free_list(d, 1, |r| Some(r.single(NO_INDEX - 1))),
+        near_refusal: None,
+    },
+    Boundary {
+        name: "entry",
+        rule: Outside::Added(Refusal::RingIndex),
+        near: |d| tail_of_two(d, 1),
+        far: |d| tail_of_two(d, 2),
+        near_refusal: None,
+    },
+    Boundary {
+        name: "long ring",
+        rule: Outside::Added(Refusal::RingIndex),
+        near: |d| to_highest(d, NO_INDEX + 1),
+        far: |d| to_highest(d, NO_INDEX),
+        near_refusal: None,
+    },
+    Boundary {
+        name: "bitmap past the ring",
+        rule: Outside::Added(Refusal::RingIndex),
+        near: |d| ring_before(d, false),
+        far: |d| ring_before(d, true),
+        near_refusal: None,
+    },
+    Boundary {
+        name: "index and listed blocks",
+        rule: Outside::Added(Refusal::RingIndex),
+        near: |d| before_listed(d, true),
+        far: |d| before_listed(d, false),
+        near_refusal: Some(Refusal::OutsideBytes),
+    },
+    Boundary {
+        name: "alone",
+        rule: Outside::Problem(ProblemKind::FreeInUse),
+        near: |d| free_list(d, 0, |r| Some(r.single(NO_INDEX))),
+        far: |d| free_list(d, 0, |r| Some(r.single(r.last_in_use()?))),
+        near_refusal: None,
+    },
+    Boundary {
+        name: "head",
+        rule: Outside::Problem(ProblemKind::FreeInUse),
+        near: |d| free_list(d, 3, |r| r.three(None)),
+        far: |d| free_list(d, 3, |r| r.three(Some(0))),
+        near_refusal: None,
+    },
+    Boundary {
+        name: "between",
+        rule: Outside::Problem(ProblemKind::FreeInUse),
+        near: |d| free_list(d, 3, |r| r.three(None)),
+        far: |d| free_list(d, 3, |r| r.three(Some(1))),
+        near_refusal: None,
+    },
+    Boundary {
+        name: "tail",
+        rule: Outside::Problem(ProblemKind::FreeInUse),
+        near: |d| free_list(d, 3, |r| r.three(None)),
+        far: |d| free_list(d, 3, |r| r.three(Some(2))),
+        near_refusal: None,
+    },
+    Boundary {
+        name: "circle",
+        rule: Outside::Problem(ProblemKind::FreeRepeated),
+        near: |d| circle(d, 4, 3, true),
+        far: |d| circle(d, 4, 3, false),
+        near_refusal: None,
+    },
+    Boundary {
+        name: "circle of one",
+        rule: Outside::Problem(ProblemKind::FreeRepeated),
+        near: |d| circle(d, 0, 1, true),
+        far: |d| circle(d, 0, 1, false),
+        near_refusal: None,
+    },
+    Boundary {
+        name: "long ring",
+        rule: Outside::Problem(ProblemKind::FreeRepeated),
+        near: |d| to_itself(d, NO_INDEX),
+        far: |d| to_itself(d, NO_INDEX - 1),
+        near_refusal: None,
+    },
 ];
 
 impl Boundary {
@@ -239,6 +360,37 @@ fn count_of_superblock(d: &mut Draft, place: usize) -> Option<String> {
 
 fn queued(d: &mut Draft, start: u64, length: u64) -> Option<String> {
     queue_entry(d, Role::PoolQueueNode, start, length)
+}
+
+/// Two unused blocks, of which the last leads out of the ring; the tail is the second, or would be the third.
+fn tail_of_two(d: &mut Draft, tail: usize) -> Option<String> {
+    free_list(d, 3, |r| {
+        let mut list = r.list(2);
+        list.tail = *r.unused.get(tail)?;
+        Some(list)
+    })
+}
+
+/// Unused blocks of which the last leads back to the first; it is the tail, or nothing is that is on the list.
+fn circle(d: &mut Draft, more: u64, blocks: usize, ends: bool) -> Option<String> {
+    free_list(d, more, |r| {
+        let mut list = r.list(blocks);
+        *list.next.get_mut(list.tail as usize)? = list.head;
+        list.tail = if ends { list.tail } else { r.unused.get(blocks).copied().unwrap_or(NO_INDEX) };
+        Some(list)
+    })
+}
+
+/// From an unused block to 0xffff, the tail, which a ring of so many blocks has or hasn't.
+fn to_highest(d: &mut Draft, ring: u64) -> Option<String> {
+    let first = unused(d)?;
+    long_ring(d, ring, [first, NO_INDEX, NO_INDEX], NO_INDEX)
+}
+
+/// A head that leads to itself, in a ring that has every index.
+fn to_itself(d: &mut Draft, head: u64) -> Option<String> {
+    let tail = unused(d)?;
+    long_ring(d, NO_INDEX + 1, [head; 3], tail)
 }
 
 #[cfg(test)]

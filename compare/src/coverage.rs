@@ -1,5 +1,7 @@
 //! Counts how often each thing that can happen happened, and in how many ways.
 
+mod ring;
+
 use std::collections::{BTreeMap, BTreeSet};
 use std::fmt;
 
@@ -131,7 +133,7 @@ const FINDINGS: [&str; 44] = [
 ];
 
 /// The shapes that have to be met, as the survey names them.
-const SHAPES: [&str; 53] = [
+const SHAPES: [&str; 54] = [
     "block size 4096",
     "block size 8192",
     "block size 16384",
@@ -154,6 +156,7 @@ const SHAPES: [&str; 53] = [
     "address block over several chunk-info blocks",
     "address blocks beside another chunk-info count",
     "empty free list",
+    "free list of one block",
     "free list of several blocks",
     "chunk of no blocks",
     "node of fixed sizes",
@@ -219,7 +222,7 @@ pub fn wanted() -> Vec<Row> {
     rows.extend(kinds().filter(|&kind| kind != Kind::FreeQueue).map(Row::Owner));
     rows.extend(kinds().filter(|&kind| kind != Kind::ContainerSuperblock).map(Row::Claimant));
     rows.extend(kinds().map(Row::Lost));
-    rows.extend(FINDINGS.map(Row::Finding));
+    rows.extend(FINDINGS.into_iter().chain(ring::FINDINGS).map(Row::Finding));
     rows.extend(RECIPES.iter().map(|(name, _)| Row::Recipe(name)));
     rows.extend(SHAPES.map(|name| Row::Shape(name.into())));
     rows
@@ -233,10 +236,12 @@ pub fn rows(pass: &Pass, image: &Image) -> BTreeSet<Row> {
             rows.insert(Row::Refusal(*refusal));
             rows.extend(pass.notes.volumes.stage.map(|stage| Row::Volume(stage, *refusal)));
             rows.extend(refusal_rows(*refusal, &pass.notes));
+            rows.extend(held(&ring::refused(*refusal, &pass.notes)));
         }
         Answer::Reported(report) => {
             report_rows(report, &mut rows);
             rows.extend(noted_rows(&pass.notes));
+            rows.extend(held(&ring::reported(report, &pass.notes)));
         }
     }
     rows.extend(pass.notes.outside.map(Row::Outside));

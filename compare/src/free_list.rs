@@ -4,9 +4,10 @@
 use crate::fields::{manager as m, put_list};
 
 pub struct FreeList {
-    head: u64,
-    tail: u64,
-    next: Vec<u64>,
+    pub head: u64,
+    pub tail: u64,
+    /// For each block of the ring the one that follows it.
+    pub next: Vec<u64>,
 }
 
 impl FreeList {

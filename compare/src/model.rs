@@ -1,14 +1,15 @@
 //! The rules of the check, stated once more: its refusals with their numbers, and its report.
 //!
 //! Written from the contract and not from the original, in the order of the contract: what block 0 says, the
-//! checkpoint, the object map, the manager, the pool and the chunks, the queues, the claims and the volumes'. It tells which
-//! refusal an image meets, and so which images leave the comparison with the original.
+//! checkpoint, the object map, the manager, the pool, the unused blocks of its bitmap's ring, the chunks, the queues, the
+//! claims and the volumes'. It tells which refusal an image meets, and so which images leave the comparison with the original.
 
 mod audit;
 mod blocks;
 mod checkpoint;
 mod claims;
 mod manager;
+mod ring;
 mod tree;
 mod volumes;
 
@@ -25,6 +26,8 @@ use claims::Claims;
 pub use claims::Mappings;
 use manager::Manager;
 pub use manager::Ring;
+use ring::FreeRing;
+pub use ring::{Leads, RingEnd};
 pub use tree::ObjectMap;
 use tree::Walked;
 pub use tree::{Layout, WALK_LEVELS};
@@ -46,6 +49,7 @@ pub struct Notes {
     pub area_ends_at_count: bool,
     /// An entry of the pool queue ends at the count.
     pub queued_to_count: bool,
+    pub free_ring: FreeRing,
     pub walked: Walked,
     pub mappings: Mappings,
     pub volumes: Volumes,
@@ -136,8 +140,10 @@ fn geometry<'a>(image: &'a [u8], room: usize, notes: &mut Notes) -> Step<(Blocks
 fn pass(blocks: &Blocks, taken: &Taken, cells: &mut [u8], notes: &mut Notes) -> Step<Report> {
     let objects = ObjectMap::load(blocks, superblock::OBJECT_MAP.of(taken.superblock))?;
     let manager = Manager::load(blocks, taken, notes)?;
+    notes.free_ring = FreeRing::beside(blocks, &manager);
     let pool = Pool::load(blocks, &manager)?;
     let mut audit = Audit { pool: &pool, cells, report: Report::default(), notes };
+    audit.free_ring(&manager)?;
     audit.listed(blocks, &manager)?;
     audit.queue(blocks, taken, manager.field(m::POOL_QUEUE))?;
     let mut report = audit.report;

@@ -257,6 +257,7 @@ mod tests {
     use crate::judge::is_due;
     use crate::model::check;
     use crate::seeds::Builder;
+    use space_check::FIGURES;
 
     #[test]
     fn patterns_take_whole_lines() {
@@ -267,6 +268,11 @@ mod tests {
             "volume superblock"
         );
         assert_eq!(matched("end", "end of it"), None);
+    }
+
+    #[test]
+    fn the_free_list_is_behind_its_numbers() {
+        assert_eq!((NUMBERS, FIGURES), (places::FREE_RING, places::FREE_RING + 1));
     }
 
     #[test]

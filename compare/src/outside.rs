@@ -2,7 +2,7 @@
 
 use std::fmt;
 
-use space_check::Refusal;
+use space_check::{ProblemKind, Refusal};
 
 /// A rule that the original doesn't have, or has otherwise.
 #[derive(Clone, Copy, Debug, PartialEq, Eq, PartialOrd, Ord)]
@@ -17,23 +17,36 @@ pub enum Outside {
     AddressBlocks,
     /// A volume whose object map is at address 0: the original would read block 0 as that map, if it opened the volume.
     MapInBlockZero,
+    /// A free-next table past the manager's end: the original never reads it, nor what it holds.
+    FreeNextTable,
+    /// A problem that the original doesn't look for.
+    Problem(ProblemKind),
 }
 
 /// Refusals that are added whole.
-const ADDED: [Refusal; 6] = [
+const ADDED: [Refusal; 7] = [
     Refusal::BlockCount,
     Refusal::MissingBlocks,
     Refusal::ShortMap,
     Refusal::DescriptorArea,
     Refusal::CountDiffers,
     Refusal::TooManyNodes,
+    Refusal::RingIndex,
 ];
+
+/// Problems on the list of the ring's unused blocks.
+const RING_PROBLEMS: [ProblemKind; 2] = [ProblemKind::FreeInUse, ProblemKind::FreeRepeated];
 
 impl Outside {
     pub fn all() -> Vec<Outside> {
-        let others =
-            [Outside::QueuedPastCount, Outside::DeletedMapping, Outside::AddressBlocks, Outside::MapInBlockZero];
-        ADDED.map(Outside::Added).into_iter().chain(others).collect()
+        let others = [
+            Outside::QueuedPastCount,
+            Outside::DeletedMapping,
+            Outside::AddressBlocks,
+            Outside::MapInBlockZero,
+            Outside::FreeNextTable,
+        ];
+        ADDED.map(Outside::Added).into_iter().chain(others).chain(RING_PROBLEMS.map(Outside::Problem)).collect()
     }
 
     /// The rule of a refusal that is added whole.
@@ -47,14 +60,16 @@ impl Outside {
             Outside::Added(refusal) => Some(refusal),
             Outside::QueuedPastCount => Some(Refusal::Overflow),
             Outside::MapInBlockZero => Some(Refusal::PastContainer),
-            Outside::DeletedMapping | Outside::AddressBlocks => None,
+            Outside::FreeNextTable => Some(Refusal::OutsideBytes),
+            Outside::DeletedMapping | Outside::AddressBlocks | Outside::Problem(_) => None,
         }
     }
 
-    /// Its short name: the number of its refusal, where it has one.
+    /// Its short name: the number of its refusal or of its problem, where it has one.
     pub fn label(self) -> String {
         match (self, self.refusal()) {
             (_, Some(refusal)) => refusal.number().to_string(),
+            (Outside::Problem(kind), None) => format!("problem {}", kind.number()),
             (Outside::AddressBlocks, None) => "address".into(),
             (_, None) => "deleted".into(),
         }
@@ -73,6 +88,10 @@ impl fmt::Display for Outside {
             Outside::MapInBlockZero => {
                 write!(f, "refusal {}, a volume's object map in block 0", Refusal::PastContainer.number())
             }
+            Outside::FreeNextTable => {
+                write!(f, "refusal {}, a free-next table past the manager", Refusal::OutsideBytes.number())
+            }
+            Outside::Problem(kind) => write!(f, "problem {}, {kind:?}", kind.number()),
         }
     }
 }

@@ -6,6 +6,9 @@ mod address;
 mod checkpoint;
 mod manager;
 mod mapping;
+mod ring;
+mod ring_order;
+mod ring_table;
 mod tree;
 mod volume;
 
@@ -13,6 +16,9 @@ use crate::draft::Draft;
 pub use address::read_both_ways;
 pub use checkpoint::area_to_end;
 pub use mapping::{deleted_of_lengths, first_mapping};
+pub use ring::{free_list, ring_before};
+pub use ring_order::{before_listed, behind_pool};
+pub use ring_table::{long_ring, table_of, table_to_end, unused};
 pub use tree::{chain_of, queue_entry, queue_ghost, repeats_of};
 pub use volume::{extent_chain, extent_repeats, map_at};
 
@@ -73,6 +79,20 @@ pub const RECIPES: &[(&str, Recipe)] = &[
     ("address block in block 0", address::in_block_zero),
     ("address block past the container", address::past_container),
     ("address blocks listed at the manager's end", address::list_to_end),
+    ("free list emptied", ring::emptied),
+    ("free list in any order", ring::in_any_order),
+    ("free list of many blocks", ring::of_many_blocks),
+    ("free list in a circle", ring::in_a_circle),
+    ("free list out of its ring", ring::out_of_ring),
+    ("free list over a block in use", ring::over_block_in_use),
+    ("free list twice over a block in use", ring::in_use_twice),
+    ("free list beside a pool without bits", ring_order::beside_pool),
+    ("free list beside a fault of the listed blocks", ring_order::beside_listed),
+    ("free list at the end of numbers", ring_order::at_end_of_numbers),
+    ("free-next table at the manager's end", ring_table::at_end),
+    ("ring of no blocks", ring_table::no_ring),
+    ("ring that ends before a bitmap", ring::ends_before_bitmap),
+    ("ring of more than 65,534 blocks", ring_table::of_long_ring),
 ];
 
 fn cut_image(d: &mut Draft) -> Option<String> {

@@ -32,7 +32,7 @@ const STAGES: usize = 2;
 const HEADER: &str = "\
 # Images with the answers of the original, for replaying where its sources are not at hand (tools/replay).
 # Made by `compare answers`; the form is told in compare/README.md.
-# rust report, and nothing more: every figure and the map are the original's.
+# rust report, and nothing more: the map and every figure but the last, the blocks on the free list, are the original's.
 # Otherwise the line says what is the model's, and with `outside` by which rule the original is no reference.
 ";
 
@@ -150,7 +150,7 @@ impl List {
 }
 
 fn item_name(boundary: &Boundary) -> String {
-    format!("boundary-{}-{}", boundary.rule.label(), boundary.name.replace(' ', "-"))
+    format!("boundary {} {}", boundary.rule.label(), boundary.name).replace(' ', "-")
 }
 
 /// The near side reports as the original does, or is refused as it has to be, and the far side meets the rule.

@@ -156,6 +156,7 @@ impl Surveyor<'_> {
         self.feature(indices.len() > 1, "pool bitmap of several blocks");
         let (head, tail) = (manager::FREE_HEAD.of(&bytes), manager::FREE_TAIL.of(&bytes));
         self.feature(head == manager::NO_INDEX, "empty free list");
+        self.feature(head == tail && head != manager::NO_INDEX, "free list of one block");
         self.feature(head != tail, "free list of several blocks");
         let fields = [manager::ALL, &indices, &addresses, &free].concat();
         self.survey.objects.push(Object { role: Role::Manager, blocks, length, fields, bits: 0 });

@@ -1,29 +1,35 @@
 //! The descriptor area: the map chain of one checkpoint, its superblock, and block 0.
 
 use std::io;
+use std::ops::Range;
 
 use compare::fields::{checkpoint_map, mapping, object, superblock as s};
 use compare::fletcher::seal;
 
-use super::{volumes, Build, Form, BLOCK, MANAGER_ID, QUEUE_ID, XID};
+use super::{manager, volumes, Build, Form, BLOCK, MANAGER_ID, QUEUE_ID, XID};
 
 /// So many mappings fit a block.
 const MAPPINGS: usize = (BLOCK - checkpoint_map::ENTRIES) / checkpoint_map::ENTRY;
 
-/// What the map names: the manager and the nodes of both queues, one after the other in the data area.
-fn ids(form: &Form) -> impl Iterator<Item = u64> {
-    std::iter::once(MANAGER_ID).chain(QUEUE_ID..QUEUE_ID + 2 * form.queue_nodes())
+/// The nodes of both queues.
+fn node_ids(form: &Form) -> Range<u64> {
+    QUEUE_ID..QUEUE_ID + 2 * form.queue_nodes()
 }
 
+/// The map names the manager and the nodes.
 pub fn map_blocks(form: &Form) -> u64 {
-    ids(form).count().div_ceil(MAPPINGS) as u64
+    (1 + node_ids(form).count()).div_ceil(MAPPINGS) as u64
 }
 
 impl Build<'_> {
     pub fn checkpoint(&self) -> io::Result<()> {
-        let mappings: Vec<(u64, u64)> = ids(&self.form).zip(self.places.data..).collect();
-        let superblock = self.places.descriptors + map_blocks(&self.form);
-        for (at, listed) in (self.places.descriptors..).zip(mappings.chunks(MAPPINGS)) {
+        let places = &self.places;
+        let manager = Mapping { id: MANAGER_ID, address: places.data, blocks: manager::blocks(&self.form) };
+        let node = |(id, address)| Mapping { id, address, blocks: 1 };
+        let nodes = node_ids(&self.form).zip(places.queues..).map(node);
+        let mappings: Vec<Mapping> = std::iter::once(manager).chain(nodes).collect();
+        let superblock = places.descriptors + map_blocks(&self.form);
+        for (at, listed) in (places.descriptors..).zip(mappings.chunks(MAPPINGS)) {
             self.put(at, &map_block(at, listed, at + 1 == superblock))?;
         }
         let block = self.superblock();
@@ -58,19 +64,26 @@ impl Build<'_> {
     }
 }
 
-/// A block of the map chain, with ids and addresses.
-fn map_block(at: u64, mappings: &[(u64, u64)], last: bool) -> Vec<u8> {
+/// Where an object stands, and how long it is.
+struct Mapping {
+    id: u64,
+    address: u64,
+    blocks: u64,
+}
+
+/// A block of the map chain.
+fn map_block(at: u64, mappings: &[Mapping], last: bool) -> Vec<u8> {
     let mut block = vec![0; BLOCK];
     object::ID.set(&mut block, at);
     object::XID.set(&mut block, XID);
     object::TYPE.set(&mut block, object::CHECKPOINT_MAP | object::PHYSICAL);
     checkpoint_map::FLAGS.set(&mut block, if last { checkpoint_map::LAST } else { 0 });
     checkpoint_map::COUNT.set(&mut block, mappings.len() as u64);
-    for (i, &(id, address)) in mappings.iter().enumerate() {
+    for (i, &Mapping { id, address, blocks }) in mappings.iter().enumerate() {
         let entry = checkpoint_map::ENTRIES + i * checkpoint_map::ENTRY;
         let kind = if id == MANAGER_ID { object::MANAGER } else { object::NODE };
         mapping::TYPE.shifted(entry).set(&mut block, kind | object::EPHEMERAL);
-        mapping::SIZE.shifted(entry).set(&mut block, BLOCK as u64);
+        mapping::SIZE.shifted(entry).set(&mut block, blocks * BLOCK as u64);
         mapping::ID.shifted(entry).set(&mut block, id);
         mapping::ADDRESS.shifted(entry).set(&mut block, address);
     }

@@ -51,13 +51,13 @@ impl Build<'_> {
         Ok(())
     }
 
-    /// A queue's tree in the data area, its nodes from place `first` behind the manager on.
+    /// A queue's tree, its nodes from place `first` of the queues' on.
     fn queue(&mut self, mut runs: Vec<Run>, first: u64) -> io::Result<()> {
         runs.sort_unstable();
         let entries = runs.into_iter().map(entry).collect();
         let sizes = Some(Sizes { key: queue::KEY, value: queue::VALUE });
         let tree = Tree::of(entries, sizes, object::FREE_QUEUE, QUEUE_ID + first..);
-        self.tree(&tree, self.places.data + 1 + first..)
+        self.tree(&tree, self.places.queues + first..)
     }
 }
 

@@ -101,7 +101,8 @@ mod tests {
     use crate::scratch::Scratch;
     use crate::synthetic::write;
 
-    const FORM: Form = Form { blocks: 1 << 18, bitmap_every: 1, queued: 10, mapped: 300, volumes: 7, seed: 1 };
+    const FORM: Form =
+        Form { blocks: 1 << 18, bitmap_every: 1, queued: 10, mapped: 300, volumes: 7, ring: None, seed: 1 };
 
     #[test]
     fn a_volume_has_two_hundred_nodes() {

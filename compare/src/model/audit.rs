@@ -12,6 +12,7 @@ use crate::fields::{address_block, chunk, chunk_info, manager as m, queue};
 use crate::outside::Outside;
 
 /// The internal pool and its bitmap, block after block.
+#[derive(Default)]
 pub struct Pool<'a> {
     base: u64,
     count: u64,
@@ -21,12 +22,11 @@ pub struct Pool<'a> {
 impl<'a> Pool<'a> {
     /// All indices are read before the first bitmap; the size is tested after the last.
     pub fn load(blocks: &Blocks<'a>, manager: &Manager) -> Step<Self> {
-        let slots = manager.field(m::BITMAP_SLOTS);
-        let indices = manager.list(manager.field(m::INDEX_OFFSET), slots, m::INDEX_WIDTH)?;
+        let indices = manager.pool_indices()?;
         let ring = manager.field(m::BITMAP_BASE);
         let bitmaps = indices.iter().map(|&i| blocks.raw(sum(ring, i)?)).collect::<Step<Vec<_>>>()?;
         let count = manager.field(m::POOL_COUNT);
-        need(count <= slots * blocks.size as u64 * 8, Refusal::BadBitmap)?;
+        need(count <= indices.len() as u64 * blocks.size as u64 * 8, Refusal::BadBitmap)?;
         Ok(Pool { base: manager.field(m::POOL_BASE), count, bitmaps })
     }
 
@@ -97,7 +97,7 @@ pub struct Audit<'p, 'c> {
 
 impl Audit<'_, '_> {
     /// Notes a problem where the test holds.
-    fn problem_if(&mut self, test: bool, kind: ProblemKind, block: u64) {
+    pub fn problem_if(&mut self, test: bool, kind: ProblemKind, block: u64) {
         if !test {
             return;
         }
@@ -218,7 +218,7 @@ mod tests {
         address_block::address(0).set(&mut image[4096..], 3);
         let blocks = Blocks { image: &image, size: 4096, count: 4 };
         let (mut cells, mut notes) = ([0; 4], Notes::default());
-        let pool = Pool { base: 0, count: 0, bitmaps: Vec::new() };
+        let pool = Pool::default();
         let mut audit = Audit { pool: &pool, cells: &mut cells, report: Report::default(), notes: &mut notes };
         // Nothing is marked; block 2 is an empty address block, block 3 a chunk-info block without records.
         assert_eq!(audit.address_blocks(&blocks, &[1, 2, 1]), Ok(()));
@@ -232,7 +232,7 @@ mod tests {
         let mut image = vec![0; 16 * 4096];
         image[4096..4098].copy_from_slice(&[0xff, 0x03]);
         let blocks = Blocks { image: &image, size: 4096, count: 16 };
-        let pool = Pool { base: 0, count: 0, bitmaps: Vec::new() };
+        let pool = Pool::default();
         for (bitmap, free) in [(0, 16), (1, 6)] {
             let report = Report::default();
             let mut audit = Audit { pool: &pool, cells: &mut [0; 16], report, notes: &mut Notes::default() };

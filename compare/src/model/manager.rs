@@ -54,13 +54,34 @@ impl<'a> Manager<'a> {
         Ok(manager)
     }
 
+    /// A manager of these bytes, which aren't tested.
+    #[cfg(test)]
+    pub fn of(bytes: &'a [u8]) -> Self {
+        Manager { parts: vec![bytes], length: bytes.len() }
+    }
+
     pub fn field(&self, field: Field) -> u64 {
         self.number(field.at, field.width).expect("the manager holds its fields")
+    }
+
+    /// The indices of the ring's blocks that hold the pool's bitmap.
+    pub fn pool_indices(&self) -> Step<Vec<u64>> {
+        self.list(self.field(manager::INDEX_OFFSET), self.field(manager::BITMAP_SLOTS), manager::INDEX_WIDTH)
+    }
+
+    /// For each block of the ring the index of the one that follows it on the list of unused ones.
+    pub fn free_next(&self) -> Step<Vec<u64>> {
+        self.list(self.field(manager::FREE_NEXT_OFFSET), self.field(manager::BITMAP_RING), manager::INDEX_WIDTH)
     }
 
     /// `count` numbers of `width` bytes from `offset` on, read whole.
     pub fn list(&self, offset: u64, count: u64, width: usize) -> Step<Vec<u64>> {
         (0..count as usize).map(|i| self.number(offset as usize + i * width, width)).collect()
+    }
+
+    /// The bytes behind such a list, below 0 where it passes the end.
+    pub fn behind(&self, offset: Field, count: Field, width: usize) -> i64 {
+        self.length as i64 - self.field(offset) as i64 - self.field(count) as i64 * width as i64
     }
 
     fn number(&self, at: usize, width: usize) -> Step<u64> {

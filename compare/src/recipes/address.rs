@@ -1,5 +1,6 @@
 //! Damages by address blocks: those of the container, or one behind its end, which no bitmap marks.
 
+use super::ring_table::table_aside;
 use super::{queue_entry, queue_ghost};
 use crate::address_block::write;
 use crate::draft::Draft;
@@ -12,9 +13,13 @@ fn may_have(d: &mut Draft) -> Option<()> {
 }
 
 /// The container's first address block, or a new block.
+fn any_place(d: &mut Draft) -> Option<u64> {
+    d.first(Role::AddressBlock).map(|object| object.blocks[0]).or_else(|| d.grow(1))
+}
+
 fn place(d: &mut Draft) -> Option<u64> {
     may_have(d)?;
-    d.first(Role::AddressBlock).map(|object| object.blocks[0]).or_else(|| d.grow(1))
+    any_place(d)
 }
 
 fn chunk_infos(d: &Draft) -> Vec<u64> {
@@ -89,8 +94,9 @@ pub fn as_bitmap(d: &mut Draft) -> Option<String> {
     Some(format!("block {address}"))
 }
 
+/// Few containers have a pool queue with an entry.
 pub fn queued(d: &mut Draft) -> Option<String> {
-    let address = place(d)?;
+    let address = any_place(d)?;
     list_alone(d, address, &[])?;
     let role = Role::PoolQueueNode;
     queue_entry(d, role, address, 1).or_else(|| queue_ghost(d, role, address))
@@ -135,6 +141,7 @@ pub fn past_container(d: &mut Draft) -> Option<String> {
 pub fn list_to_end(d: &mut Draft) -> Option<String> {
     let address = place(d)?;
     list_alone(d, address, &[])?;
+    table_aside(d)?;
     let object = d.first(Role::Manager)?;
     let at = object.length - manager::ADDRESS_WIDTH;
     let past = d.rng.below(2);

@@ -1,12 +1,13 @@
 //! Damages of the manager and of the pool that it describes.
 
+use super::ring_table::table_aside;
 use crate::draft::Draft;
 use crate::fields::{manager, mapping, object, put, superblock, Field};
 use crate::fletcher::seal;
 use crate::survey::{Object, Role};
 
 /// Sets a field of every entry that maps the manager of the superblock tried first.
-fn remap(d: &mut Draft, field: Field, value: u64) -> Option<()> {
+pub fn remap(d: &mut Draft, field: Field, value: u64) -> Option<()> {
     let sb = *d.superblocks().first()?;
     for (map, at) in d.mapping_entries(d.get(sb, superblock::MANAGER_ID)) {
         d.rewrite(map, &[(field.shifted(at), value)]);
@@ -15,7 +16,7 @@ fn remap(d: &mut Draft, field: Field, value: u64) -> Option<()> {
 }
 
 /// The manager sealed again over another length.
-fn reseal_as(d: &mut Draft, object: &Object, length: usize) -> Option<String> {
+pub fn reseal_as(d: &mut Draft, object: &Object, length: usize) -> Option<String> {
     remap(d, mapping::SIZE, length as u64)?;
     d.reseal(&Object { length, ..object.clone() });
     Some(format!("{length} bytes"))
@@ -26,7 +27,11 @@ pub fn other_length(d: &mut Draft) -> Option<String> {
     let most = object.blocks.len() * d.survey.block_size;
     let length = match d.rng.below(4) {
         0 => *d.rng.pick(&[28, 32, 36, 340, 344, 348]),
-        1 => d.get(object, manager::LISTED_OFFSET) as usize + 4 * d.rng.below(3) as usize,
+        1 => {
+            // The free-next table stands behind that list, and would be met before it.
+            table_aside(d)?;
+            d.get(object, manager::LISTED_OFFSET) as usize + 4 * d.rng.below(3) as usize
+        }
         2 => d.get(object, manager::INDEX_OFFSET) as usize,
         _ => 4 * d.rng.between(8, most as u64 / 4) as usize,
     };
@@ -92,7 +97,9 @@ pub fn in_block_zero(d: &mut Draft) -> Option<String> {
 pub fn bitmap_in_block_zero(d: &mut Draft) -> Option<String> {
     let object = d.first(Role::Manager)?;
     let indices: Vec<_> = object.fields.iter().filter(|f| f.name == manager::INDEX).map(|f| (*f, 0)).collect();
-    d.rewrite(object, &[&[(manager::BITMAP_BASE, 0)], &indices[..]].concat());
+    // Block 0 of the ring is in use then, and may be on the list of unused ones.
+    let fields = [(manager::BITMAP_BASE, 0), (manager::FREE_HEAD, manager::NO_INDEX)];
+    d.rewrite(object, &[&fields, &indices[..]].concat());
     Some(format!("{} times", indices.len()))
 }
 

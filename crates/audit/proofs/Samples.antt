@@ -1,12 +1,12 @@
 -- The audit of the main device over address blocks: the problems in their order, the blocks used, refusals. The sentences are
 -- document 02's, but for one.
-use mathlib.Core.Bool.{Bool, true, false, _&&_}
+use mathlib.Core.Bool.{Bool}
 use mathlib.Core.List.{List, [], _∷_, map}
 use Prim.Native.Nat.{ℕ, _+_, _-_, _*_, _^_}
 use lib.Dec.{T, eqb}
 use lib.ListN.{length, getD, take, replicate}
 use Rattle.fields.specs.Fields.{le, num, fieldAt, bitAt}
-use Rattle.fields.proofs.Rows.{Row, row, zeros, bytesOf, blockFrom, every}
+use Rattle.fields.proofs.Rows.{Row, row, zeros, bytesOf, blockFrom, same, every}
 use Rattle.blocks.specs.Reads.{Reads, Outcome, given, refused, run, _>>=_, need}
 use Rattle.blocks.specs.Blocks.{readRaw, present, field, sum}
 use Rattle.blocks.specs.Refusals.{numberOf}
@@ -84,12 +84,6 @@ addresses (refused r) = 100 + numberOf r
 
 abbrev listed : ℕ → ℕ
 listed n = addresses (run blocks (addressesOf (blockFrom 4096 0 (row 36 4 n ∷ []) [])))
-
-abbrev same : List ℕ → List ℕ → Bool
-same [] [] = true
-same [] (y ∷ ys) = false
-same (x ∷ xs) [] = false
-same (x ∷ xs) (y ∷ ys) = eqb x y && same xs ys
 
 table : List Bool
 table =

@@ -38,19 +38,31 @@ queuedUnmarked = 4
 abbrev pub queuedInUse : ℕ
 queuedInUse = 5
 
--- document 02: "An unmarked one is problem 6."
+-- document 02, of an address block: "An unmarked one is problem 6."
 abbrev pub addressUnmarked : ℕ
 addressUnmarked = 6
 
--- what is counted: nothing yet; other problems; other counts of free blocks and of chunks whose count differs
+-- document 02, of the ring's free list: "A bitmap index in use that is also on this list is problem 7, and an index visited twice
+-- is problem 8 alone"
+abbrev pub freeInUse : ℕ
+freeInUse = 7
+
+abbrev pub freeRepeated : ℕ
+freeRepeated = 8
+
+-- what is counted: nothing yet; other problems; other counts of free blocks and of chunks whose count differs; another count of
+-- the free list's indices
 abbrev pub noAudit : Audit
-noAudit = record { problems = noProblems; free = 0; wrong = 0 }
+noAudit = record { problems = noProblems; free = 0; wrong = 0; ring = 0 }
 
 abbrev pub withProblems : ProblemLog → Audit → Audit
-withProblems l a = record { problems = l; free = a .free; wrong = a .wrong }
+withProblems l a = record { problems = l; free = a .free; wrong = a .wrong; ring = a .ring }
 
 abbrev pub withCounts : ℕ → ℕ → Audit → Audit
-withCounts free wrong a = record { problems = a .problems; free = free; wrong = wrong }
+withCounts free wrong a = record { problems = a .problems; free = free; wrong = wrong; ring = a .ring }
+
+abbrev pub withRing : ℕ → Audit → Audit
+withRing ring a = record { problems = a .problems; free = a .free; wrong = a .wrong; ring = ring }
 
 -- a problem of a kind with block a, unless the test holds
 unfoldable pub unless : Bool → ℕ → ℕ → Marked Audit → Reads (Marked Audit)

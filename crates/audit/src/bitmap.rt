@@ -135,6 +135,7 @@ fn with_counts(free: u64, wrong: u64, audit: Audit) -> Audit
         problems,
         free,
         wrong,
+        ring: audit.ring,
     }
 }
 

@@ -11,11 +11,12 @@ pub mod queued;
 pub mod unlogged;
 mod whole;
 
-// What the audit of the bitmaps has counted.
+// What the audit has counted: ring is how many different indices the free list of the pool bitmap's ring has.
 pub struct Audit {
     pub problems: ProblemLog,
     pub free: u64,
     pub wrong: u64,
+    pub ring: u64,
 }
 
 // What was counted after a step; where the step was refused, it says nothing.

@@ -14,7 +14,7 @@ use report::steps;
 ghost use mathlib.Core.Path.{_≡_};
 ghost use Rattle.report.specs.contracts.Steps.{pastOf};
 ghost use Rattle.pool.specs.contracts.Place.{poolOn};
-ghost use Rattle.audit.specs.Audit.{noAudit, withProblems, unless as unlessOf, auditMark, auditUse};
+ghost use Rattle.audit.specs.Audit.{noAudit, withProblems, withRing, unless as unlessOf, auditMark, auditUse};
 ghost use Rattle.audit.specs.contracts.Answers.{Anywhere, AuditsStill, poolAt};
 
 pub(crate) const INFO_UNMARKED: u8 = 1;
@@ -29,6 +29,10 @@ pub(crate) const QUEUED_IN_USE: u8 = 5;
 
 pub(crate) const ADDRESS_UNMARKED: u8 = 6;
 
+pub const FREE_IN_USE: u8 = 7;
+
+pub const FREE_REPEATED: u8 = 8;
+
 pub fn nothing_audited() -> Audit
     ensures { λ r. ⌜ r ≡ noAudit ⌝ }
 {
@@ -37,6 +41,7 @@ pub fn nothing_audited() -> Audit
         problems,
         free: 0,
         wrong: 0,
+        ring: 0,
     }
 }
 
@@ -47,17 +52,30 @@ fn with_problems(problems: ProblemLog, audit: Audit) -> Audit
         problems,
         free: audit.free,
         wrong: audit.wrong,
+        ring: audit.ring,
     }
 }
 
-pub(crate) fn refused(why: Refusal, audit: Audit) -> Audited
+pub fn with_ring(ring: u64, audit: Audit) -> Audit
+    ensures { λ r. ⌜ r ≡ withRing ring audit ⌝ }
+{
+    let problems = audit.problems;
+    Audit {
+        problems,
+        free: audit.free,
+        wrong: audit.wrong,
+        ring,
+    }
+}
+
+pub fn refused(why: Refusal, audit: Audit) -> Audited
     ensures { λ a. ⌜ a ≡ record { ending = Ending.Refused why; audit = audit } ⌝ }
 {
     let ending = Ending::Refused(why);
     Audited { ending, audit }
 }
 
-pub(crate) fn done(audit: Audit) -> Audited
+pub fn done(audit: Audit) -> Audited
     ensures { λ a. ⌜ a ≡ record { ending = Ending.Done; audit = audit } ⌝ }
 {
     let ending = Ending::Done;
@@ -75,7 +93,7 @@ pub(crate) fn past(audited: Audited, at: Cursor) -> AuditStep
 }
 
 // A problem with a block, unless the test holds. The map is left as it is.
-pub(crate) fn unless(ok: bool, kind: u8, number: u64, audit: Audit) -> Audited
+pub fn unless(ok: bool, kind: u8, number: u64, audit: Audit) -> Audited
     ensures { λ r. ⌜ Anywhere audit r (unlessOf ok kind number) ⌝ }
 {
     if ok {

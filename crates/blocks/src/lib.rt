@@ -34,6 +34,7 @@ pub enum Refusal {
     TooManyNodes,
     VolumeUnmapped,
     NotVolume,
+    RingIndex,
 }
 
 // An object's id and a block's address never interchange: the checkpoint map and, for volumes, the object map turn one into the other.
@@ -76,6 +77,7 @@ pub fn number_of(why: Refusal) -> u8
         Refusal::TooManyNodes => 22,
         Refusal::VolumeUnmapped => 23,
         Refusal::NotVolume => 24,
+        Refusal::RingIndex => 25,
     }
 }
 

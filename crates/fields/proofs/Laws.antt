@@ -84,12 +84,16 @@ field-absent w b off h = simp (lt-leb _ _ h)
 pub bit-read : (k x : ℕ) → eqb (bitAnd (x / 2 ^ k) 1) 1 ≡ bit k x
 bit-read k x = rw (and-mask (x / 2 ^ k) 1)
 
-pub bit-past : (b : List ℕ) (i : ℕ) → length b ≤ i / 8 → bitAt b i ≡ false
+-- bits of a byte 0, and of one that isn't there
+pub bit-zero : (b : List ℕ) (i : ℕ) → getD b (i / 8) 0 ≡ 0 → bitAt b i ≡ false
 unfolding bitAt
-bit-past b i h = rw (List·getD-eq-default b 0 h) (zero-bit (2 ^ (i % 8)))
+bit-zero b i h = rw h (zero-bit (2 ^ (i % 8)))
   where
     zero-bit : (d : ℕ) → eqb (0 / d % 2) 1 ≡ false
     zero-bit d = rw zero-div refl
+
+pub bit-past : (b : List ℕ) (i : ℕ) → length b ≤ i / 8 → bitAt b i ≡ false
+bit-past b i h = bit-zero b i (List·getD-eq-default b 0 h)
 
 -- what is asked below a limit alone
 module _ (i limit : ℕ) (asked : Bool) where

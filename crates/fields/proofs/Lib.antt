@@ -1,3 +1,4 @@
--- Laws of fields, and bytes laid out for samples.
+-- Laws of fields, bytes laid out for samples, and rules about small numbers by computing them.
 pub mod Laws
 pub mod Rows
+pub mod Tables

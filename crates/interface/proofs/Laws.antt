@@ -10,7 +10,7 @@ use lib.Seq.{slice, slice-cons, slice-empty, length-slice, drop-cons, take-nil}
 use Rattle.report.specs.Report.{overlapFigure, kinds, endingNumber}
 use Rattle.report.specs.declared.Answer.{Answer}
 use Rattle.report.specs.declared.Report.{Report}
-use Rattle.interface.specs.Places.{refusalAt, problemAt, freeAt, overlapsAt, overlapAt, lostAt, leakedAt, claimantsAt, answerFigures}
+use Rattle.interface.specs.Places.{refusalAt, problemAt, freeAt, overlapsAt, overlapAt, lostAt, leakedAt, claimantsAt, freeRingAt, answerFigures}
 use Rattle.interface.specs.Figures.{problemFigures, overlapFigures, lostFigures, auditFigures, baseKinds, claimFigures, baseFigures, laterFigures, figuresOf, written}
 use Rattle.interface.specs.contracts.Stored.{stored, Stores, laterAt}
 
@@ -135,10 +135,12 @@ pub base-stored : (a : Answer) (l₀ l₁ l₂ : List ℕ) → Stores l₀ l₁ 
 unfolding baseFigures
 base-stored a l₀ l₁ l₂ = stores-then l₀ l₁ l₂ refusalAt overlapsAt laterAt (auditFigures a) (claimFigures (a .report))
 
-pub later-stored : (r : Report) (l₀ l₁ l₂ : List ℕ) → Stores l₀ l₁ laterAt claimantsAt (lostFigures (slice baseKinds kinds (r .lost)))
-    → Stores l₁ l₂ claimantsAt answerFigures (r .overlaps .claimants) → Stores l₀ l₂ laterAt answerFigures (laterFigures r)
-unfolding laterFigures
-later-stored r l₀ l₁ l₂ lost claimants = stores-then _ _ _ _ _ _ _ _ lost claimants
+pub later-stored : (r : Report) (l₀ l₁ l₂ l₃ : List ℕ) → Stores l₀ l₁ laterAt claimantsAt (lostFigures (slice baseKinds kinds (r .lost)))
+    → Stores l₁ l₂ claimantsAt freeRingAt (r .overlaps .claimants) → l₃ ≡ set l₂ freeRingAt (r .«free_ring»)
+    → Stores l₀ l₃ laterAt answerFigures (laterFigures r)
+unfolding laterFigures flatten
+later-stored r l₀ l₁ l₂ l₃ lost claimants ring =
+    stores-then _ _ _ _ _ _ _ _ lost (stores-then _ _ _ _ _ _ _ _ claimants (stores-one _ _ _ _ ring))
 
 pub all-written : (a : Answer) (l₀ l₁ l₂ : List ℕ) → Stores l₀ l₁ refusalAt laterAt (baseFigures a)
     → Stores l₁ l₂ laterAt answerFigures (laterFigures (a .report)) → l₂ ≡ written a l₀

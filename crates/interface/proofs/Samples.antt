@@ -11,7 +11,7 @@ use Rattle.report.specs.declared.Lost.{Lost}
 use Rattle.report.specs.declared.Overlap.{Overlap}
 use Rattle.report.specs.declared.Problem.{Problem}
 use Rattle.interface.specs.Places.{refusalAt, xidAt, poolUsedAt, poolUnusedAt, problemsAt, problemAt, freeAt, wrongChunksAt, deviceFreeAt}
-use Rattle.interface.specs.Places.{overlapsAt, overlapAt, lostAt, firstLostAt, leakedAt, verdictAt, laterLostAt, laterFirstLostAt, claimantsAt, answerFigures}
+use Rattle.interface.specs.Places.{overlapsAt, overlapAt, lostAt, firstLostAt, leakedAt, verdictAt, laterLostAt, laterFirstLostAt, claimantsAt, freeRingAt, answerFigures}
 use Rattle.interface.specs.Figures.{baseKinds, figuresOf, baseFigures, auditFigures, claimFigures, laterFigures}
 
 -- k of each, of which the first has its numbers from a place on
@@ -41,6 +41,7 @@ sample =
             xid = 100 + xidAt;
             «pool_used» = 100 + poolUsedAt;
             «pool_unused» = 100 + poolUnusedAt;
+            «free_ring» = 100 + freeRingAt;
             problems = record { total = 100 + problemsAt; first = problems logged problemAt };
             free = 100 + freeAt;
             «wrong_chunks» = 100 + wrongChunksAt;

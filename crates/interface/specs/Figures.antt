@@ -56,9 +56,10 @@ claimFigures r =
 unfoldable pub baseFigures : Answer → List ℕ
 baseFigures a = auditFigures a ++ claimFigures (a .report)
 
--- kinds beyond the base's and overlaps by claimant come last: who has an array of the base's numbers goes on as before
+-- what came after the base stands last, in the order that it came: who has an array of earlier numbers goes on as before
 unfoldable pub laterFigures : Report → List ℕ
-laterFigures r = lostFigures (slice baseKinds kinds (r .lost)) ++ r .overlaps .claimants
+laterFigures r =
+    flatten (lostFigures (slice baseKinds kinds (r .lost)) ∷ r .overlaps .claimants ∷ (r .«free_ring» ∷ []) ∷ [])
 
 unfoldable pub figuresOf : Answer → List ℕ
 figuresOf a = baseFigures a ++ laterFigures (a .report)

@@ -56,5 +56,8 @@ laterFirstLostAt = 81  -- the first such of each
 abbrev pub claimantsAt : ℕ
 claimantsAt = 83  -- overlaps by the kind that came second, of kinds 1 to 11
 
+abbrev pub freeRingAt : ℕ
+freeRingAt = 94  -- different indices visited on the free list of the pool bitmap's ring
+
 abbrev pub answerFigures : ℕ
-answerFigures = 94  -- how many numbers there are
+answerFigures = 95  -- how many numbers there are

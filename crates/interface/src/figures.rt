@@ -42,6 +42,8 @@ const LATER: usize = 79;
 
 const CLAIMANTS: usize = 83;
 
+const FREE_RING: usize = 94;
+
 // Kinds whose numbers stand among the base's; those of later kinds follow at the end.
 const BASE_KINDS: usize = 9;
 
@@ -189,6 +191,7 @@ fn write_later(report: Report, figures: &mut [u64])
     let overlaps = report.overlaps;
     let claimants = overlaps.claimants;
     put_claimants(figures, CLAIMANTS, claimants);
+    put(figures, FREE_RING, report.free_ring);
 }
 
 // Writes the numbers: as many of them as the array has places.

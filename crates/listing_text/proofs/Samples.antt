@@ -7,7 +7,7 @@ use Prim.Native.Nat.{ℕ, zero, suc, _+_, _*_, _^_, _-_}
 use lib.Dec.{eqb, ltb}
 use lib.ListN.{replicate}
 use Rattle.fields.specs.Choice.{pick}
-use Rattle.blocks.specs.declared.Refusal.the-variants.{ShortImage, NotVolume}
+use Rattle.blocks.specs.declared.Refusal.the-variants.{ShortImage, RingIndex}
 use Rattle.report.specs.Report.{noProblems, noOverlaps, sumOf, kinds, zeroReport, refusal, reported}
 use Rattle.report.specs.declared.Answer.{Answer}
 use Rattle.report.specs.declared.Lost.{Lost}
@@ -35,6 +35,7 @@ damaged =
       xid = 324;
       «pool_used» = 3;
       «pool_unused» = 0;
+      «free_ring» = 0;
       problems = record { total = 1; first = record { kind = 4; block = 4 } ∷ replicate 9 (record { kind = 0; block = 0 }) };
       free = 3;
       «wrong_chunks» = 1;
@@ -126,7 +127,7 @@ first-refusal : listingOf (refusal ShortImage) ≡ ascii "refused 1\n"
 unfolding computed
 first-refusal = refl
 
-last-refusal : listingOf (refusal NotVolume) ≡ ascii "refused 24\n"
+last-refusal : listingOf (refusal RingIndex) ≡ ascii "refused 25\n"
 unfolding computed
 last-refusal = refl
 

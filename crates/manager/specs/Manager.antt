@@ -49,6 +49,16 @@ poolBase sm = num 8 sm 176
 abbrev pub poolIndicesAt : List ℕ → ℕ
 poolIndicesAt sm = num 4 sm 328
 
+-- document 02, "which bitmap blocks of the ring are unused": the list's head and tail, and where the table that leads along it stands
+abbrev pub freeHead : List ℕ → ℕ
+freeHead sm = num 2 sm 320
+
+abbrev pub freeTail : List ℕ → ℕ
+freeTail sm = num 2 sm 322
+
+abbrev pub freeNextAt : List ℕ → ℕ
+freeNextAt sm = num 4 sm 332
+
 -- the roots of the pool queue (0) and of the main queue (1)
 abbrev pub poolQueue : List ℕ → ObjectId
 poolQueue sm = record { 0 = num 8 sm 208 }
@@ -113,6 +123,10 @@ listFrom w sm (suc left) off = do
 -- the indices of the pool's bitmap blocks in their ring
 abbrev pub poolIndices : List ℕ → Reads (List ℕ)
 poolIndices sm = listFrom 2 sm (poolBitmaps sm) (poolIndicesAt sm)
+
+-- document 02, "the free-next table": an index for each block of the ring
+abbrev pub freeNext : List ℕ → Reads (List ℕ)
+freeNext sm = listFrom 2 sm (poolRingBlocks sm) (freeNextAt sm)
 
 -- document 02: "address blocks above their chunk-info blocks .. the manager's list then names address blocks", as many as it counts
 abbrev pub hasAddressBlocks : List ℕ → Bool

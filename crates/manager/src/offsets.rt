@@ -21,4 +21,10 @@ pub const POOL_QUEUE: u64 = 208;
 
 pub const MAIN_QUEUE: u64 = 248;
 
+pub const FREE_HEAD: u64 = 320;
+
+pub const FREE_TAIL: u64 = 322;
+
 pub const POOL_INDICES_AT: u64 = 328;
+
+pub const FREE_NEXT_AT: u64 = 332;

@@ -141,6 +141,12 @@ pub(crate) fn number(
     number_across(image, container, manager, off, width)
 }
 
+pub fn u16_of(image: &[u8], container: Container, manager: Manager, at: u64) -> u64
+    ensures { λ r. ⌜ NumberAt 2 (managerOn image container manager) at r ⌝ }
+{
+    number(image, container, manager, at, 2)
+}
+
 pub fn u32_of(image: &[u8], container: Container, manager: Manager, at: u64) -> u64
     ensures { λ r. ⌜ NumberAt 4 (managerOn image container manager) at r ⌝ }
 {

@@ -59,7 +59,7 @@ pub fn bitmap_block(image: &[u8], container: Container, pool: PoolPlace, index: 
         return fields::part_of(image, image.len(), 0);
     }
     let manager = pool.manager;
-    let at = lists::pool_bitmap_index(image, container, manager, pool.indices, index);
+    let at = lists::index_at(image, container, manager, pool.indices, index);
     place::block_after(image, container, pool.ring, at)
 }
 
@@ -165,7 +165,7 @@ fn bitmap_there(image: &[u8], container: Container, pool: PoolPlace, index: u64)
     ensures { λ r. ⌜ BitmapSeen (blocksIn (image .entry) container) container pool index r ⌝ }
 {
     let manager = pool.manager;
-    let k = lists::pool_bitmap_index(image, container, manager, pool.indices, index);
+    let k = lists::index_at(image, container, manager, pool.indices, index);
     if u64::MAX - pool.ring < k {
         return Presence::Refused(Refusal::Overflow);
     }

@@ -73,6 +73,7 @@ zeroReport =
       xid = 0;
       «pool_used» = 0;
       «pool_unused» = 0;
+      «free_ring» = 0;
       problems = noProblems;
       free = 0;
       «wrong_chunks» = 0;

@@ -21,6 +21,7 @@ pub fn zero_report() -> Report
         xid: 0,
         pool_used: 0,
         pool_unused: 0,
+        free_ring: 0,
         problems,
         free: 0,
         wrong_chunks: 0,

@@ -10,7 +10,7 @@ pub const LOGGED: usize = 10;
 // How many kinds of claimants there are.
 pub const KINDS: usize = 11;
 
-// Something wrong with a block of the internal pool.
+// Something wrong with a block of the internal pool, or of the ring of its bitmap.
 pub struct Problem {
     pub kind: u8,
     pub block: u64,
@@ -75,6 +75,7 @@ pub struct Report {
     pub xid: u64,
     pub pool_used: u64,
     pub pool_unused: u64,
+    pub free_ring: u64,
     pub problems: ProblemLog,
     pub free: u64,
     pub wrong_chunks: u64,

@@ -16,8 +16,10 @@ use Rattle.checkpoint.specs.Superblock.{sound}
 use Rattle.manager.specs.Chunks.{chunkAt, chunksFrom}
 use Rattle.manager.specs.Manager.{managerFrom, accepted, managerAt, managerBy, manager, listFrom}
 use Rattle.audit.specs.Audit.{unless, auditMark, auditUse, enter, markSet, markBit, markFrom, tally, tallyBitmap, readBitmap, auditBitmap, auditChunk, auditChunks, enterInfo, readInfo, auditInfo, auditEach, enterAddress, readAddress, auditAddress, auditListed, auditDevice, auditQueuedBlock, auditQueuedFrom, auditQueued}
+use Rattle.free_ring.specs.Ring.{isIn, ringFrom, ringOf}
+use Rattle.free_ring.specs.FreeRing.{ringProblem, auditIndex, auditVisited, auditEnd, closeRing, auditFree, auditTable, auditRing}
 use Rattle.block_map.specs.BlockMap.{update, usedAt, cleared, countIn, firstIn}
-use Rattle.space_check.specs.Check.{Result, reportOf, poolPart, managerPart, loadParts, audit, claimAreas, claimMappingsAndVolumes, claimObjects, claimTrees, claims, claimAndReport, auditAndClaim, body, rest, pass, settle, checkIn, check}
+use Rattle.space_check.specs.Check.{Result, reportOf, poolPart, managerPart, loadParts, auditBlocks, audit, claimAreas, claimMappingsAndVolumes, claimObjects, claimTrees, claims, claimAndReport, auditAndClaim, body, rest, pass, settle, checkIn, check}
 use Rattle.claims.specs.Claims.{claimBlock, claimFrom, claim, claimNode, mappedAddress, claimMapped, claimMapping, claimMappings, claimQueued}
 use Rattle.volumes.specs.Lookup.{isAbove, above, aboveAt, searchFrom, search, childAt, lookupFrom, lookupLe}
 use Rattle.volumes.specs.Volumes.{liveAddress, mappedBy, volumeAddress, isVolume, readVolume, addressFor, volumeFor, volumeAt, volumesFrom, claimTree, readMap, claimSnapshots, claimVolume, claimEach, claimVolumes}
@@ -27,5 +29,5 @@ use Rattle.totals.specs.Totals.{isLost, lostOf, lostFrom, isLeaked, lostIn, ver
 use Rattle.report.specs.Report.{noProblems, noOverlaps, sumOf, countClaimant, note, addProblem, addOverlap, zeroReport, refusal, reported, endingNumber}
 
 unfoldable pub computed : List ℕ → List ℕ → Result
-unfolding le num fieldAt bitAt seal fletcher checksum verifies blockOf readRaw readObject present field part sum run _>>=_ need valueEnd parse readNode describe fixedSlot variableSlot slot valueOf entry pointer readObjectMap describeMap loadObjectMap leafFrom lookAt pointerPast oneBelow indexFrom scanNode below scan childrenFrom nextNode each childrenOf walkBelow walk areaFrom isAfter isAhead bestFrom loaded try tryFrom takeSuperblock admit powerFrom sizeAllowed allowed geometry mappingsFrom belongsTo chainAddress chainFrom chain lookup sound chunkAt chunksFrom managerFrom accepted managerAt managerBy manager listFrom unless auditMark auditUse enter markSet markBit markFrom tally tallyBitmap readBitmap auditBitmap auditChunk auditChunks enterInfo readInfo auditInfo auditEach enterAddress readAddress auditAddress auditListed auditDevice auditQueuedBlock auditQueuedFrom auditQueued update usedAt cleared countIn firstIn audit claimAreas claimMappingsAndVolumes claimObjects claimTrees claims claimAndReport auditAndClaim isLost lostOf lostFrom lostIn isLeaked verdictOf reportOf poolPart managerPart loadParts body rest pass settle checkIn check claimBlock claimFrom claim claimNode mappedAddress claimMapped claimMapping claimMappings claimQueued isAbove above aboveAt searchFrom search childAt lookupFrom lookupLe liveAddress mappedBy volumeAddress isVolume readVolume addressFor volumeFor volumeAt volumesFrom claimTree readMap claimSnapshots claimVolume claimEach claimVolumes bitmapsFrom poolFrom loadPool poolMarked unusedFrom runCount runOf nodeBy scanQueue queueFrom queue noProblems noOverlaps sumOf countClaimant note addProblem addOverlap zeroReport refusal reported endingNumber
+unfolding le num fieldAt bitAt seal fletcher checksum verifies blockOf readRaw readObject present field part sum run _>>=_ need valueEnd parse readNode describe fixedSlot variableSlot slot valueOf entry pointer readObjectMap describeMap loadObjectMap leafFrom lookAt pointerPast oneBelow indexFrom scanNode below scan childrenFrom nextNode each childrenOf walkBelow walk areaFrom isAfter isAhead bestFrom loaded try tryFrom takeSuperblock admit powerFrom sizeAllowed allowed geometry mappingsFrom belongsTo chainAddress chainFrom chain lookup sound chunkAt chunksFrom managerFrom accepted managerAt managerBy manager listFrom unless auditMark auditUse enter markSet markBit markFrom tally tallyBitmap readBitmap auditBitmap auditChunk auditChunks enterInfo readInfo auditInfo auditEach enterAddress readAddress auditAddress auditListed auditDevice auditQueuedBlock auditQueuedFrom auditQueued isIn ringFrom ringOf ringProblem auditIndex auditVisited auditEnd closeRing auditFree auditTable auditRing update usedAt cleared countIn firstIn auditBlocks audit claimAreas claimMappingsAndVolumes claimObjects claimTrees claims claimAndReport auditAndClaim isLost lostOf lostFrom lostIn isLeaked verdictOf reportOf poolPart managerPart loadParts body rest pass settle checkIn check claimBlock claimFrom claim claimNode mappedAddress claimMapped claimMapping claimMappings claimQueued isAbove above aboveAt searchFrom search childAt lookupFrom lookupLe liveAddress mappedBy volumeAddress isVolume readVolume addressFor volumeFor volumeAt volumesFrom claimTree readMap claimSnapshots claimVolume claimEach claimVolumes bitmapsFrom poolFrom loadPool poolMarked unusedFrom runCount runOf nodeBy scanQueue queueFrom queue noProblems noOverlaps sumOf countClaimant note addProblem addOverlap zeroReport refusal reported endingNumber
 computed image map = check image map

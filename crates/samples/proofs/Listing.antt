@@ -19,6 +19,7 @@ consistentWith used free =
       xid = 7;
       «pool_used» = used;
       «pool_unused» = 0;
+      «free_ring» = 0;
       problems = noProblems;
       free = free;
       «wrong_chunks» = 0;

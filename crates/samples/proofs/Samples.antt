@@ -17,9 +17,9 @@ use Rattle.nodes.specs.declared.Description.{Description}
 use Rattle.manager.specs.Chunks.{chunksOf}
 use Rattle.manager.specs.declared.Chunk.{Chunk}
 use Rattle.block_map.specs.BlockMap.{Marked, ownerOf, countIn}
-use Rattle.report.specs.Report.{noProblems, noOverlaps, overlapTotal, endingNumber}
+use Rattle.report.specs.Report.{noOverlaps, overlapTotal, endingNumber}
 use Rattle.pool.specs.Pool.{Pool, poolMarked}
-use Rattle.audit.specs.Audit.{auditChunk, auditQueued}
+use Rattle.audit.specs.Audit.{noAudit, auditChunk, auditQueued}
 use Rattle.claims.specs.Claims.{claim, claimQueued}
 use Rattle.space_check.specs.Check.{check}
 use Rattle.audit.specs.declared.Audit.{Audit}
@@ -51,7 +51,7 @@ abbrev pool : Pool
 pool = record { base = 6; blocks = 2; bits = 3 ∷ [] }
 
 abbrev fresh : Marked Audit
-fresh = record { map = replicate 16 0; figures = record { problems = noProblems; free = 0; wrong = 0 } }
+fresh = record { map = replicate 16 0; figures = noAudit }
 
 abbrev chunk : ℕ → Chunk
 chunk bitmap = record { start = 0; blocks = 16; free = 6; bitmap = record { 0 = bitmap } }

@@ -42,10 +42,13 @@ use Rattle.queue.specs.Queue.{runCount, runOf, nodeBy, scanQueue, queue, queueF
 use Rattle.totals.specs.Totals.{unowned}
 use Rattle.audit.specs.Audit.{unless, markFrom, tally, auditBitmap, auditChunk, auditChunks, auditInfo, auditQueuedFrom, auditQueued, auditMark, auditUse, markSet, markBit, tallyBitmap, readBitmap, enterInfo, readInfo, auditEach, enterAddress, readAddress, auditAddress, auditListed, auditDevice, auditQueuedBlock}
 use Rattle.audit.specs.declared.Audit.{Audit}
+use Rattle.free_ring.specs.FreeRing.{ringProblem, auditIndex, auditVisited, auditEnd, closeRing, auditFree, auditTable, auditRing}
+use Rattle.free_ring.specs.declared.RingEnd.{RingEnd}
+use Rattle.free_ring.specs.declared.RingEnd.the-variants.{Tail, Again, Outside}
 use Rattle.claims.specs.Claims.{claimBlock, claimFrom, claim, claimNode, claimMapped, claimMapping, claimQueued, mappedAddress, claimMappings}
 use Rattle.volumes.specs.Lookup.{above, aboveAt, searchFrom, search, childAt, lookupFrom, lookupLe}
 use Rattle.volumes.specs.Volumes.{liveAddress, mappedBy, volumeAddress, readVolume, addressFor, volumeFor, volumeAt, volumesFrom, snapshotsAddress, claimTree, readMap, claimSnapshots, claimVolume, claimEach, claimVolumes}
-use Rattle.space_check.specs.Check.{audit, claimAreas, claimMappingsAndVolumes, claimObjects, claims, body, lastUntouched, Parts, poolPart, managerPart, loadParts, claimTrees, claimAndReport, auditAndClaim}
+use Rattle.space_check.specs.Check.{auditBlocks, audit, claimAreas, claimMappingsAndVolumes, claimObjects, claims, body, lastUntouched, Parts, poolPart, managerPart, loadParts, claimTrees, claimAndReport, auditAndClaim}
 
 abbrev pub IsLate : Refusal → Type 0
 IsLate r = leb (numberOf r) lastUntouched ≡ false
@@ -364,6 +367,34 @@ late-auditUse : (c : Container) (p : Pool) (unmarked inUse a : ℕ) (s : Marked 
 unfolding auditUse
 late-auditUse c p unmarked inUse a s = late-bind _ _ (late-auditMark p _ _ s) (λ s₁. late-unless _ _ _ s₁)
 
+late-ringProblem : (kind base i : ℕ) (s : Marked Audit) → Late (ringProblem kind base i s)
+unfolding ringProblem
+late-ringProblem kind base i s = late-bind _ _ (late-sum _ _) (λ a. late-unless _ _ _ s)
+
+late-auditIndex : (base : ℕ) (used : Bool) (i : ℕ) (s : Marked Audit) → Late (auditIndex base used i s)
+unfolding auditIndex
+late-auditIndex base true i s = late-ringProblem _ _ _ s
+late-auditIndex base false i s = late-done _
+
+late-auditVisited : (base : ℕ) (used is : List ℕ) (s : Marked Audit) → Late (auditVisited base used is s)
+unfolding auditVisited
+late-auditVisited base used [] s = late-done _
+late-auditVisited base used (i ∷ is) s = late-bind _ _ (late-auditIndex base _ i s) (late-auditVisited base used is)
+
+late-auditEnd : (base : ℕ) (end : RingEnd) (s : Marked Audit) → Late (auditEnd base end s)
+unfolding auditEnd
+late-auditEnd base Tail s = late-done _
+late-auditEnd base (Again i) s = late-ringProblem _ _ _ s
+late-auditEnd base Outside s = late-refuse _ _ refl
+
+late-auditRing : (sm : List ℕ) (s : Marked Audit) → Late (auditRing sm s)
+unfolding auditRing auditTable auditFree closeRing
+late-auditRing sm s =
+    late-bind _ _ (late-listFrom _ sm _ _) (λ next.
+    late-bind _ _ (late-listFrom _ sm _ _) (λ used.
+    late-bind _ _ (late-auditVisited _ used _ s) (λ s₁.
+    late-bind _ _ (late-auditEnd _ _ s₁) (λ s₂. late-done _))))
+
 late-markSet : (c : Container) (start i : ℕ) (s : Marked ℕ) → Late (markSet c start i s)
 unfolding markSet
 late-markSet c start i s = late-bind _ _ (late-sum _ _) (λ a. late-test _ _ _ refl (late-done _))
@@ -597,9 +628,13 @@ module _ (c : Container) (sb : List ℕ) (mapped : ObjectId → Mapped) where
   unfolding loadParts managerPart poolPart
   late-loadParts = late-bind _ _ (late-loadObjectMap c _) (λ root. late-bind _ _ (late-manager c sb mapped) (λ sm. late-bind _ _ (late-loadPool c sm) (λ p. late-done _)))
 
+  late-auditBlocks : (x : Parts) (s : Marked Audit) → Late (auditBlocks c sb mapped x s)
+  unfolding auditBlocks
+  late-auditBlocks x s = late-bind _ _ (late-auditDevice c _ _ s) (λ s₁. late-queue c _ _ (late-auditQueued c _) _ s₁)
+
   late-audit : (x : Parts) (map : List ℕ) → Late (audit c sb mapped x map)
   unfolding audit
-  late-audit x map = late-bind _ _ (late-auditDevice c _ _ _) (λ s. late-queue c _ _ (late-auditQueued c _) _ s)
+  late-audit x map = late-bind _ _ (late-auditRing _ _) (late-auditBlocks x)
 
   late-claimAreas : (sm : List ℕ) (s : Marked OverlapLog) → Late (claimAreas c sb mapped sm s)
   unfolding claimAreas

@@ -27,6 +27,7 @@ use Rattle.pool.specs.Pool.{Pool, loadPool, unusedFrom}
 use Rattle.queue.specs.Queue.{queue}
 use Rattle.totals.specs.Totals.{lostFrom, isLeaked, verdictOf}
 use Rattle.audit.specs.Audit.{noAudit, auditDevice, auditQueued}
+use Rattle.free_ring.specs.FreeRing.{auditRing}
 use Rattle.claims.specs.Claims.{containerSuperblock, descriptorArea, dataArea, internalPool, poolBitmapRing, objectMap, objectMapNode, claim, claimNode, claimMappings, claimQueued}
 use Rattle.volumes.specs.Volumes.{claimVolumes}
 use Rattle.report.specs.declared.Answer.{Answer}
@@ -43,6 +44,7 @@ reportOf c sm p a o map =
       xid = c .xid;
       «pool_used» = countIn isUsed cells 0;
       «pool_unused» = unusedFrom c p map (p .blocks) (p .base) 0;
+      «free_ring» = a .ring;
       problems = a .problems;
       free = a .free;
       «wrong_chunks» = a .wrong;
@@ -72,8 +74,12 @@ module _ (c : Container) (sb : List ℕ) (mapped : ObjectId → Mapped) where
   loadParts = loadObjectMap c (objectMapAddress sb) >>= managerPart
 
   -- the chunks of the main device; "Then the pool queue (0)"
+  unfoldable pub auditBlocks : Parts → Marked Audit → Reads (Marked Audit)
+  auditBlocks x s = auditDevice c (x .pool) (x .sm) s >>= queue c mapped (auditQueued c (x .pool)) (poolQueue (x .sm))
+
+  -- document 02, of the free ring: "Audit it between the pool bitmap (with its 20) and the first address or chunk-info block"
   unfoldable pub audit : Parts → List ℕ → Reads (Marked Audit)
-  audit x map = auditDevice c (x .pool) (x .sm) (record { map = map; figures = noAudit }) >>= queue c mapped (auditQueued c (x .pool)) (poolQueue (x .sm))
+  audit x map = auditRing (x .sm) (record { map = map; figures = noAudit }) >>= auditBlocks x
 
   -- claims 1 to 6: "The areas are the taken superblock's; their lengths drop the top bit."
   unfoldable pub claimAreas : List ℕ → Marked OverlapLog → Reads (Marked OverlapLog)

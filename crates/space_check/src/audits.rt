@@ -1,6 +1,7 @@
 // The audit and the claims of a whole pass.
 use crate::PartsPlace;
 use crate::areas::claim_areas;
+use audit::Audit;
 use audit::Audited;
 use audit::problems;
 use blocks::Address;
@@ -16,12 +17,37 @@ use pool::PoolPlace;
 use report::Ending;
 use report::OverlapLog;
 ghost use Rattle.blocks.specs.contracts.Images.{blocksIn};
-ghost use Rattle.audit.specs.contracts.Answers.{AuditsOn};
+ghost use Rattle.audit.specs.contracts.Answers.{AuditsOn, AuditsAs};
 ghost use Rattle.trees.specs.contracts.Answers.{ClaimsAs, TreeReadAt};
 ghost use Rattle.trees.specs.contracts.Read.{NodeRead};
-ghost use Rattle.space_check.specs.contracts.Stages.{auditOf, mappingsOf, objectsOf, treesOf, claimsOf, ClaimsOn, RootRead};
+ghost use Rattle.space_check.specs.contracts.Stages.{blocksOf, auditOf, mappingsOf, objectsOf, treesOf, claimsOf, ClaimsOn, RootRead};
 
 // The main device in the order of its list, then the pool queue.
+fn audit_blocks(
+    image: &[u8],
+    map: &mut [u8],
+    checkpoint: Checkpoint,
+    parts: PartsPlace,
+    audit: Audit,
+) -> Audited
+    ensures { λ r. ⌜ AuditsAs image map (checkpoint .container) audit r (blocksOf checkpoint parts) ⌝ }
+{
+    let container = checkpoint.container;
+    let pool = parts.pool;
+    let audited = audit::device::audit_device(image, map, container, pool, audit);
+    let ending = audited.ending;
+    match ending {
+        Ending::Refused(_) => audited,
+        Ending::Done => {
+            let audit = audited.audit;
+            let m = pool.manager;
+            let root = ObjectId(place::u64_of(image, container, m, POOL_QUEUE));
+            trees::queues::audit_queue(image, map, checkpoint, pool, root, audit)
+        }
+    }
+}
+
+// The free ring of the pool's bitmap, then the blocks of the device and of the queue.
 pub(crate) fn audit_all(
     image: &[u8],
     map: &mut [u8],
@@ -32,21 +58,14 @@ pub(crate) fn audit_all(
 {
     let container = checkpoint.container;
     let pool = parts.pool;
-    let audited = audit::device::audit_device(
-        image,
-        map,
-        container,
-        pool,
-        problems::nothing_audited(),
-    );
+    let m = pool.manager;
+    let audited = free_ring::audits::audit_ring(image, container, m, problems::nothing_audited());
     let ending = audited.ending;
     match ending {
         Ending::Refused(_) => audited,
         Ending::Done => {
             let audit = audited.audit;
-            let m = pool.manager;
-            let root = ObjectId(place::u64_of(image, container, m, POOL_QUEUE));
-            trees::queues::audit_queue(image, map, checkpoint, pool, root, audit)
+            audit_blocks(image, map, checkpoint, parts, audit)
         }
     }
 }

@@ -39,6 +39,7 @@ fn report_of(
         xid: container.xid,
         pool_used: totals.used,
         pool_unused: pool::unused(image, map, container, pool),
+        free_ring: audit.ring,
         problems,
         free: audit.free,
         wrong_chunks: audit.wrong,

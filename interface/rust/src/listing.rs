@@ -121,6 +121,25 @@ allocated but unused (leaked): 0 blocks
         assert!(listing.contains(lost), "{listing}");
     }
 
+    #[test]
+    fn problems_that_the_original_does_not_have() {
+        let mut figures = [0; FIGURES];
+        figures[places::VERDICT] = Verdict::Inconsistent.number();
+        figures[places::PROBLEMS] = 4;
+        figures[places::PROBLEM..places::PROBLEM + 8].copy_from_slice(&[7, 31, 8, 30, 6, 29, 1, 28]);
+        figures[places::FREE_RING] = 12345;
+        let listing = Report::of_figures(&figures).unwrap().listing("disk").to_string();
+        let problems = "internal pool  0 blocks in use, 0 marked but unused, 4 problems
+  problem 7 at 0x1f
+  problem 8 at 0x1e
+  problem 6 at 0x1d
+  chunk-info block 0x1c is free in the internal-pool bitmap
+bitmaps    ";
+        assert!(listing.contains(problems), "{listing}");
+        // counted in the report alone
+        assert!(!listing.contains("12345"), "{listing}");
+    }
+
     /// Claims come in the order 2, 3, 10, 9; by name it is 3, 2, 10, 9.
     #[test]
     fn claimants_are_sorted_by_number_and_lost_lines_by_name() {

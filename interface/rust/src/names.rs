@@ -60,7 +60,7 @@ numbered! {
 }
 
 numbered! {
-    /// What is wrong with a block of the internal pool.
+    /// What is wrong with a block of the internal pool, or of the ring of its bitmap.
     ProblemKind {
         InfoUnmarked = 1, "chunk-info block unmarked";
         BitmapUnmarked = 2, "chunk bitmap unmarked";
@@ -68,6 +68,8 @@ numbered! {
         QueuedUnmarked = 4, "queued block unmarked";
         QueuedUsed = 5, "queued block already used";
         AddressUnmarked = 6, "address block unmarked";
+        FreeInUse = 7, "pool bitmap block in use and listed as unused";
+        FreeRepeated = 8, "pool bitmap block listed as unused twice";
     }
 }
 
@@ -108,6 +110,7 @@ numbered! {
              blocks, as one that leads back into itself";
         VolumeUnmapped = 23, "the object map does not lead to a volume of the container: its entry there is missing, empty or deleted";
         NotVolume = 24, "a volume's entry in the object map leads to something else than a volume superblock";
+        RingIndex = 25, "the space manager's list of unused blocks in the internal-pool bitmap ring leads past the ring's end";
     }
 }
 
@@ -142,7 +145,7 @@ mod tests {
     #[test]
     fn a_number_without_a_name() {
         assert_eq!((Kind::from_number(0), Refusal::from_number(u64::MAX)), (None, None));
-        assert_eq!(Refusal::from_number(24), Some(Refusal::NotVolume));
+        assert_eq!(Refusal::from_number(25), Some(Refusal::RingIndex));
         // no longer given, and not used again
         assert_eq!(Refusal::from_number(19), None);
     }

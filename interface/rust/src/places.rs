@@ -48,8 +48,10 @@ places! {
     LATER_FIRST_LOST = 81;
     /// Overlaps by the kind that came second, of kinds 1 to 11: see [`claimant`]. They add up to [`OVERLAPS`].
     CLAIMANTS = 83;
+    /// Blocks of the pool bitmap's ring on the manager's list of unused ones, each counted once.
+    FREE_RING = 94;
     /// An answer is so many numbers.
-    FIGURES = 94;
+    FIGURES = 95;
 }
 
 /// So many problems, and so many overlaps, are named in a report.

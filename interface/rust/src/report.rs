@@ -12,7 +12,7 @@ pub struct Log<T> {
     pub first: Vec<T>,
 }
 
-/// A block of the internal pool, and what is wrong with it.
+/// A block of the internal pool, or of the ring of its bitmap, and what is wrong with it.
 #[derive(Clone, Copy, Debug, PartialEq, Eq)]
 pub struct Problem {
     /// What is wrong.
@@ -61,7 +61,10 @@ pub struct Report {
     pub pool_used: u64,
     /// Blocks of the internal pool that its bitmap marks and nothing uses.
     pub pool_unused: u64,
-    /// What is wrong with the internal pool.
+    /// Blocks of the pool bitmap's ring on the manager's list of unused ones, each counted once; where the list leads back
+    /// into itself, those up to there.
+    pub free_ring: u64,
+    /// What is wrong with the internal pool and its bitmap.
     pub problems: Log<Problem>,
     /// Free blocks, as the bitmaps have them.
     pub free: u64,
@@ -101,6 +104,7 @@ impl Report {
             xid: n[places::XID],
             pool_used: n[places::POOL_USED],
             pool_unused: n[places::POOL_UNUSED],
+            free_ring: n[places::FREE_RING],
             problems: log(n[places::PROBLEMS], problems.chunks_exact(PROBLEM_NUMBERS).map(problem)),
             free: n[places::FREE],
             wrong_chunks: n[places::WRONG_CHUNKS],

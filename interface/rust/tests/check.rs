@@ -1,6 +1,7 @@
 // The 16-block container of document 01's listing, which is also the listing program's input.
-use space_check::places::{CLAIMANTS, LATER_LOST};
-use space_check::{block_size, blocks, check, figures, figures_into, Cell, Kind, Lost, Refusal, Verdict, FIGURES};
+use space_check::places::{CLAIMANTS, FREE_RING, LATER_LOST};
+use space_check::{block_size, blocks, check, figures, figures_into, Cell, FIGURES};
+use space_check::{Kind, Lost, Problem, ProblemKind, Refusal, Verdict};
 
 const CONTAINER: &[u8] = include_bytes!("../../../crates/listing/stdin");
 const BLOCKS: usize = 16;
@@ -14,7 +15,8 @@ fn a_consistent_container() {
     let report = check(CONTAINER, &mut map).unwrap();
     let expected = include_str!("../../../crates/listing/stdout");
     assert_eq!(report.listing("stdin").to_string(), expected);
-    assert_eq!(report.verdict, Verdict::Consistent);
+    // its list of unused bitmap blocks is empty
+    assert_eq!((report.verdict, report.free_ring), (Verdict::Consistent, 0));
     assert_eq!(map[BLOCKS], 0xff, "a byte past the block count");
     assert_eq!(Cell(map[9]).owner(), Some(Kind::ObjectMapNode));
     assert!(Cell(map[6]).is_pool_used() && Cell(map[6]).is_marked());
@@ -61,12 +63,42 @@ fn overlaps_by_claimant() {
     assert!(listing.contains(overlaps), "{listing}");
 }
 
+/// The container with a list of unused blocks in the ring of the pool's bitmap. The ring is block 5 alone, which is in use; the
+/// list's table, in the manager's bytes 354 and 355, says that 0 follows 0.
+fn with_free_list(head: u16, tail: u16, checksum: u64) -> Vec<u8> {
+    let mut image = CONTAINER.to_vec();
+    let manager = &mut image[3 * 4096..4 * 4096];
+    manager[320..322].copy_from_slice(&head.to_le_bytes());
+    manager[322..324].copy_from_slice(&tail.to_le_bytes());
+    manager[332..336].copy_from_slice(&354_u32.to_le_bytes());
+    manager[..8].copy_from_slice(&checksum.to_le_bytes());
+    image
+}
+
+#[test]
+fn a_list_of_unused_bitmap_blocks() {
+    let mut map = vec![0xff; BLOCKS];
+    let in_use = Problem { kind: ProblemKind::FreeInUse, block: 5 };
+    let repeated = Problem { kind: ProblemKind::FreeRepeated, block: 5 };
+    let report = check(&with_free_list(0, 0, 0x005f_c198_7fa0_2614), &mut map).unwrap();
+    assert_eq!((report.verdict, report.free_ring, report.problems.first), (Verdict::Inconsistent, 1, vec![in_use]));
+    // the tail is never met
+    let report = check(&with_free_list(0, 1, 0x040f_c198_7bef_2614), &mut map).unwrap();
+    assert_eq!((report.verdict, report.free_ring), (Verdict::Inconsistent, 1));
+    assert_eq!(report.problems.first, [in_use, repeated]);
+    let listing = report.listing("disk").to_string();
+    assert!(listing.contains(", 2 problems\n  problem 7 at 0x5\n  problem 8 at 0x5\nbitmaps"), "{listing}");
+    assert_eq!(check(&with_free_list(1, 1, 0x040f_c548_7bef_2263), &mut map), Err(Refusal::RingIndex));
+    assert_eq!(map, [0; BLOCKS]);
+}
+
 #[test]
 fn arrays_of_other_lengths() {
     let mut map = vec![0; BLOCKS];
     let whole = figures(CONTAINER, &mut map);
-    // the numbers of version 0.1.0 are those before the later kinds, those of 0.3.0 the ones before the claimants
-    for length in [0, 1, 28, LATER_LOST, CLAIMANTS, FIGURES - 1, FIGURES, FIGURES + 4] {
+    // the numbers of version 0.1.0 are those before the later kinds, those of 0.3.0 the ones before the claimants, those of
+    // 0.4.0 the ones before the free ring
+    for length in [0, 1, 28, LATER_LOST, CLAIMANTS, FREE_RING, FIGURES, FIGURES + 4] {
         let (mut array, mut map_again) = (vec![u64::MAX; length], vec![0xff; BLOCKS]);
         figures_into(CONTAINER, &mut map_again, &mut array);
         let kept = vec![u64::MAX; length.saturating_sub(FIGURES)];

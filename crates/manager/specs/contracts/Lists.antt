@@ -8,7 +8,7 @@ use Rattle.blocks.specs.contracts.Images.{Lent, blocksIn}
 use Rattle.blocks.specs.declared.Address.{Address}
 use Rattle.blocks.specs.declared.Container.{Container}
 use Rattle.blocks.specs.declared.Presence.{Presence}
-use Rattle.manager.specs.Manager.{listFrom, poolIndices, poolBitmaps, poolIndicesAt, listedAt, listedCount, addressCount, addressesAt}
+use Rattle.manager.specs.Manager.{listFrom, poolIndices, poolBitmaps, poolIndicesAt, poolRingBlocks, freeNextAt, freeNext, listedAt, listedCount, addressCount, addressesAt}
 use Rattle.manager.specs.Chunks.{chunkAt, chunkLength, chunkCount, chunksAt, chunksOf}
 use Rattle.manager.specs.contracts.Place.{placed}
 use Rattle.manager.specs.declared.AddressList.{AddressList}
@@ -31,9 +31,16 @@ records b (suc left) e = chunkAt b e ∷ records b left (e + chunkLength)
 abbrev pub FieldsSeen : ℕ → List ℕ → ℕ → ℕ → Presence → Type 0
 FieldsSeen w sm n off r = Always (thereAs (values w sm n off) r) (listFrom w sm n off)
 
--- the indices of the pool's bitmap blocks, whole, and one of them
+-- a list of ring indices, whole, by where its count and its offset stand
+abbrev pub IndexList : List ℕ → ℕ → ℕ → Presence → Type 0
+IndexList sm counted offset r = FieldsSeen 2 sm (num 4 sm counted) (num 4 sm offset) r
+
+-- the indices of the pool's bitmap blocks, whole; the table of the ring's free list; and an index of either
 abbrev pub IndicesSeen : List ℕ → Presence → Type 0
 IndicesSeen sm r = Always (thereAs (values 2 sm (poolBitmaps sm) (poolIndicesAt sm)) r) (poolIndices sm)
+
+abbrev pub FreeNextSeen : List ℕ → Presence → Type 0
+FreeNextSeen sm r = Always (thereAs (values 2 sm (poolRingBlocks sm) (freeNextAt sm)) r) (freeNext sm)
 
 abbrev pub IndexRead : List ℕ → ℕ → ℕ → ℕ → Type 0
 IndexRead sm at i r = NumberAt 2 sm (at + 2 * i) r

@@ -10,15 +10,15 @@ part-of-requires c κs = search needs
 returns : tie.Need-returns
 returns c = c .part-of .ensures ∙ sym (block-past _ _ _ _ (c .before .if1 .taken))
 
-pool-bitmap-index-requires : tie.Need-pool-bitmap-index-requires
-pool-bitmap-index-requires c κs = search needs
+index-at-requires : tie.Need-index-at-requires
+index-at-requires c κs = search needs
 
 block-after-requires : tie.Need-block-after-requires
 block-after-requires c κs = search needs
 
 returns-2 : tie.Need-returns-2
-returns-2 c = block-there _ _ _ _ (c .before .before .before .if1 .left) _ (c .before .pool-bitmap-index .ensures .is) _ (c .block-after .ensures)
+returns-2 c = block-there _ _ _ _ (c .before .before .before .if1 .left) _ (c .before .index-at .ensures .is) _ (c .block-after .ensures)
 
 pub bitmap-block-spec : {M : Type 1} → statement M
 bitmap-block-spec =
-    tie.close (tie.spec part-of-requires returns pool-bitmap-index-requires block-after-requires returns-2)
+    tie.close (tie.spec part-of-requires returns index-at-requires block-after-requires returns-2)

@@ -33,7 +33,7 @@ use Rattle.audit.specs.declared.Audit.{Audit}
 use Rattle.claims.specs.Claims.{containerSuperblock, descriptorArea, dataArea, internalPool, objectMap, claim}
 use Rattle.claims.specs.declared.Claimed.{Claimed}
 use Rattle.trees.specs.contracts.Read.{NodeRead}
-use Rattle.space_check.specs.Check.{Result, Parts, poolPart, managerPart, loadParts, audit, claimAreas, claimMappingsAndVolumes, claimObjects, claimTrees, claims, reportOf, claimAndReport, auditAndClaim, body, settle, rest, pass}
+use Rattle.space_check.specs.Check.{Result, Parts, poolPart, managerPart, loadParts, auditBlocks, audit, claimAreas, claimMappingsAndVolumes, claimObjects, claimTrees, claims, reportOf, claimAndReport, auditAndClaim, body, settle, rest, pass}
 use Rattle.space_check.specs.declared.Area.{Area}
 use Rattle.space_check.specs.declared.PartsPlace.{PartsPlace}
 use Rattle.space_check.specs.declared.Passed.{Passed}
@@ -87,6 +87,9 @@ managerOf k root f = managerPart (k .container) (superblockOf f k) (mappedIn f k
 
 abbrev pub loadOf : Checkpoint → (ℕ → List ℕ) → Reads Parts
 loadOf k f = loadParts (k .container) (superblockOf f k) (mappedIn f k)
+
+abbrev pub blocksOf : Checkpoint → PartsPlace → Pass (Marked Audit) (Marked Audit)
+blocksOf k x f = auditBlocks (k .container) (superblockOf f k) (mappedIn f k) (partsIn f (k .container) x)
 
 abbrev pub auditOf : Checkpoint → PartsPlace → Pass (List ℕ) (Marked Audit)
 auditOf k x f = audit (k .container) (superblockOf f k) (mappedIn f k) (partsIn f (k .container) x)

@@ -9,14 +9,19 @@ put-lost-requires c κs = search needs
 put-claimants-requires : tie.Need-put-claimants-requires
 put-claimants-requires c κs = search needs
 
+put-requires : tie.Need-put-requires
+put-requires c κs = search needs
+
 same-length : tie.Need-same-length
 same-length c = search needs
 
 returns : tie.Need-returns
 returns c =
-    let lost = c .before .before .before .before .before .before .before .before in
-    later-stored (lost .before .before .before .before .args .report) _ _ _ (lost .put-lost .ensures) (c .before .before .put-claimants .ensures)
+    let ring = c .before .before in
+    let claimants = ring .before .before .before .before in
+    let lost = claimants .before .before .before .before .before .before in
+    later-stored (lost .before .before .before .before .args .report) _ _ _ _ (lost .put-lost .ensures) (claimants .put-claimants .ensures) (ring .put .ensures)
 
 pub write-later-spec : {M : Type 1} → statement M
 write-later-spec =
-    tie.close (tie.spec put-lost-requires put-claimants-requires same-length returns)
+    tie.close (tie.spec put-lost-requires put-claimants-requires put-requires same-length returns)

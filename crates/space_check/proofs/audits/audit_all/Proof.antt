@@ -7,8 +7,8 @@ use Rattle.space_check.proofs.audits.audit_all.Tie as tie
 nothing-audited-requires : tie.Need-nothing-audited-requires
 nothing-audited-requires c κs = search needs
 
-audit-device-requires : tie.Need-audit-device-requires
-audit-device-requires c κs = search needs
+audit-ring-requires : tie.Need-audit-ring-requires
+audit-ring-requires c κs = search needs
 
 enum-told : tie.Need-enum-told
 enum-told c = search needs
@@ -16,37 +16,29 @@ enum-told c = search needs
 enum-told-2 : tie.Need-enum-told-2
 enum-told-2 c = search needs
 
-u64-of-requires : tie.Need-u64-of-requires
-u64-of-requires c κs = search needs
-
-audit-queue-requires : tie.Need-audit-queue-requires
-audit-queue-requires c κs = search needs
-
-same-length : tie.Need-same-length
-same-length c = c .before .before .before .before .audit-device .ensures .kept .long
+audit-blocks-requires : tie.Need-audit-blocks-requires
+audit-blocks-requires c κs = search needs
 
 returns : tie.Need-returns
 unfolding audit
-returns c = step-stop (rw (c .before .before .before .before .before .nothing-audited .ensures) at (c .before .before .before .before .audit-device .ensures)) _ _ _ (c .enum-told .given .1)
+returns c = step-stop ((rw (c .before .before .before .nothing-audited .ensures) at (c .before .before .audit-ring .ensures)) _ _ _) _ _ _ (c .enum-told .given .1)
 
-same-length-2 : tie.Need-same-length-2
-same-length-2 c = search needs
+same-length : tie.Need-same-length
+same-length c = search needs
 
 returns-2 : tie.Need-returns-2
 unfolding audit
-returns-2 c = step-then (rw (c .before .before .before .before .before .before .before .before .before .before .before .before .nothing-audited .ensures) at (c .before .before .before .before .before .before .before .before .before .before .before .audit-device .ensures)) _ (c .before .before .before .before .before .before .before .enum-told2 .given .1) (rw (c .before .before .before .before .u64-of .ensures .is) at (c .before .before .audit-queue .ensures))
+returns-2 c = step-then ((rw (c .before .before .before .before .before .before .before .before .nothing-audited .ensures) at (c .before .before .before .before .before .before .before .audit-ring .ensures)) _ _ _) _ (c .before .before .before .before .before .enum-told2 .given .1) (c .before .before .audit-blocks .ensures)
 
 pub audit-all-spec : {M : Type 1} → statement M
 audit-all-spec =
     tie.close
     (tie.spec
     nothing-audited-requires
-    audit-device-requires
+    audit-ring-requires
     enum-told
     enum-told-2
-    u64-of-requires
-    audit-queue-requires
-    same-length
+    audit-blocks-requires
     returns
-    same-length-2
+    same-length
     returns-2)
