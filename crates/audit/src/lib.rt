@@ -1,4 +1,6 @@
 // The audit of the bitmaps, and of what the pool is used for.
+#![tactic(auto)]
+
 use report::{Ending, ProblemLog, Step};
 
 mod bitmap;

@@ -1,4 +1,6 @@
 // The block map: a byte for each block, bits 0 to 3 its owner, bit 4 marked, bit 5 used in the pool.
+#![tactic(auto)]
+
 ghost use Rattle.std.specs.Prelude.{◌≡◌, ◌%◌, min, max, length, get_or, set, replicate};
 ghost use Rattle.block_map.specs.BlockMap.{owner_of, is_marked, is_used, marked, used, owned_by, update, used_at, cleared};
 ghost use Rattle.block_map.specs.clauses.Rows.{greatest_in, itself, all_zero};

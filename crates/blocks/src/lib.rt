@@ -1,4 +1,5 @@
 // What a pass is made of: refusals, object ids and block addresses, and reads of a container's blocks (dev.rs, nx.rs `Reader`).
+#![tactic(auto)]
 
 ghost use Rattle.std.specs.Prelude.{◌≡◌, List, ℕ};
 ghost use Rattle.blocks.specs.Refusals.{number_of};

@@ -1,4 +1,6 @@
 // The container that block 0 names, the checkpoint that a pass takes, and its map (nx.rs).
+#![tactic(auto)]
+
 use blocks::{Address, Container, ObjectId, Refusal};
 
 pub mod block_zero;

@@ -1,4 +1,6 @@
 // The claims: who owns each block.
+#![tactic(auto)]
+
 ghost use Rattle.std.specs.Prelude.{◌≡◌, ◌||◌, ◌+◌, ◌%◌, ◌<◌, eqb};
 ghost use Rattle.blocks.specs.clauses.Images.{bytes};
 ghost use Rattle.blocks.specs.clauses.Answers.{number_as, Always};

@@ -1,4 +1,6 @@
 // Little-endian fields of a part of an image (bytes.rs), the header of an object (obj.rs), and bits.
+#![tactic(auto)]
+
 ghost use Rattle.std.specs.Prelude.{◌≡◌, ◌+◌, ◌%◌, ◌<◌, ◌≤◌, min, leb, length, take, drop};
 ghost use Rattle.fields.specs.clauses.Numbers.{NumberAt, FieldOf};
 ghost use Rattle.fields.specs.Fields.{bit, bit_at};

@@ -1,4 +1,6 @@
 // Fletcher-64 over 32-bit little-endian words, modulo 2^32 - 1 (checksum.rs).
+#![tactic(auto)]
+
 ghost use Rattle.std.specs.Prelude.{[], ◌++◌, ◌≡◌, ◌+◌, ◌%◌, ◌≤◌, ◌<◌, ◌^◌, length};
 ghost use Rattle.fletcher.specs.Fletcher.{seal as seal_of, checksum as checksum_of, verifies};
 ghost use Rattle.fletcher.specs.clauses.Pieces.{word_at, Reduced, Added, Plus, Halves};

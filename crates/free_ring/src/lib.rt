@@ -1,4 +1,5 @@
 // The free ring of the pool's bitmap: the blocks of the ring that the manager lists as unused.
+#![tactic(auto)]
 
 pub mod audits;
 mod sets;

@@ -1,4 +1,6 @@
 // The space check, and the builder of nodes, for C and Rust.
+#![tactic(auto)]
+
 ghost use Rattle.std.specs.Prelude.{◌≡◌};
 ghost use Rattle.space_check.specs.Check.{check};
 ghost use Rattle.interface.specs.Figures.{written};

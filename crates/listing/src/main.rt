@@ -1,4 +1,6 @@
 // The space check of an image on standard input, as a listing on standard output. What follows the first 65,536 bytes is left unread.
+#![tactic(auto)]
+
 ghost use Rattle.io.specs.Counts.{IsPrefixLen};
 ghost use Rattle.listing.specs.Printed.{Prints};
 

@@ -1,4 +1,6 @@
 // The space manager: its bytes over the data area, its lists, those of address blocks, and the records of chunks (spaceman.rs).
+#![tactic(auto)]
+
 use blocks::{Address, Refusal};
 
 pub mod addresses;

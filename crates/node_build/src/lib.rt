@@ -1,4 +1,6 @@
 // Nodes built to order (btree_write.rs), whole from their entries.
+#![tactic(auto)]
+
 ghost use Rattle.std.specs.Prelude.{◌≡◌};
 ghost use Rattle.node_build.specs.Asked.{built_number};
 

@@ -1,4 +1,6 @@
 // Nodes of trees (btree.rs) and the object map (omap.rs).
+#![tactic(auto)]
+
 use blocks::Refusal;
 
 pub mod entries;

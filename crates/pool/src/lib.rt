@@ -1,4 +1,6 @@
 // The internal pool: the blocks that the manager keeps for its own, and their bitmap, read where it stands.
+#![tactic(auto)]
+
 ghost use Rattle.std.specs.Prelude.{◌≡◌, ◌+◌, ◌-◌, ◌*◌, ◌/◌, ◌<◌, ◌≤◌, nat_le, slice_index};
 ghost use Rattle.fields.specs.Fields.{bit_at};
 ghost use Rattle.blocks.specs.clauses.Images.{bytes, blocks_in, Holds};

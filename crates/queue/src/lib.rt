@@ -1,4 +1,6 @@
 // The entries of a free queue, and the nodes that its tree leads to.
+#![tactic(auto)]
+
 ghost use Rattle.blocks.specs.clauses.Images.{bytes};
 ghost use Rattle.blocks.specs.clauses.Answers.{number_as, Always, Finds};
 ghost use Rattle.nodes.specs.Node.{read_node};

@@ -1,4 +1,6 @@
 // What a pass answers: logs, the report, and how it ended.
+#![tactic(auto)]
+
 use blocks::Refusal;
 
 pub mod answers;

@@ -1,4 +1,6 @@
 // The figures that are counted on the final block map, and the verdict on them.
+#![tactic(auto)]
+
 ghost use Rattle.std.specs.Prelude.{◌≡◌, not, ◌+◌, ◌-◌, ◌^◌, ◌≤◌, ◌<◌, eqb, length, take};
 ghost use Rattle.fields.specs.Choice.{pick};
 ghost use Rattle.totals.specs.Totals.{is_leaked, lost_in, verdict_of};

@@ -1,4 +1,6 @@
 // Trees scanned for their entries and walked for their nodes (btree.rs).
+#![tactic(auto)]
+
 use audit::Audit;
 use blocks::{Address, Refusal};
 use checkpoint::Checkpoint;

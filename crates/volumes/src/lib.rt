@@ -1,4 +1,6 @@
 // The volumes of a container: their superblocks, found by the object map (omap.rs, btree.rs `lookup_le`), and the claims of their own trees.
+#![tactic(auto)]
+
 use blocks::{Address, Refusal};
 use nodes::EntryPlace;
 

@@ -1,4 +1,6 @@
 // Writers beside the readers of `fields`: each puts bytes at a place of a lent slice that has room, and answers the place after.
+#![tactic(auto)]
+
 ghost use Rattle.std.specs.Prelude.{◌≡◌, ◌+◌, ◌≤◌, length, replicate};
 ghost use Rattle.writers.specs.Bytes.{le_bytes};
 ghost use Rattle.writers.specs.clauses.Wrote.{Wrote};
