@@ -1,12 +1,8 @@
 use Rattle.fletcher.proofs.Laws.{fletcher_reduced}
 use Rattle.fletcher.specs.clauses.Pieces.{words}
 use borrow.Author.Rules.{rules}
-use Rattle.fletcher.proofs.reduced.Statement.{statement}
-use Rattle.fletcher.proofs.reduced.Tie as tie
+use Rattle.fletcher.proofs.reduced.Goals as goal
 
-returns : tie.Need-returns
+pub returns : goal.returns
 unfolding words
 returns c = record { onward = λ rest. fletcher_reduced rest _ _; fits = search rules }
-
-pub reduced-spec : {M : Type 1} → statement M
-reduced-spec = tie.close (tie.spec returns)

@@ -1,0 +1,13 @@
+use mathlib.Core.Path.{refl}
+use Rattle.writers.proofs.Laws.{Writing, length_zeros, writing_more, writing_done, zeros_more, zeros_none, zeros_from}
+use lib.ListN.{replicate}
+use borrow.Author.Rules.{rules}
+use native.Mathlib.Omega.{arith}
+use Prim.Native.Nat.{◌+◌, ◌-◌, ◌≤◌}
+use Rattle.writers.proofs.put_zeros.Given as goal
+
+abbrev pub invariant-loop-k : goal.invariant-loop-k
+invariant-loop-k l = (l.k ≤ l.count) × Writing (replicate (l.count - l.k) 0) (l.at + l.k) l.out (replicate l.count 0) l.at l.initial.out
+
+abbrev pub decreases-loop-k : goal.decreases-loop-k
+decreases-loop-k l = l.count - l.k
