@@ -1,3 +1,2 @@
 -- Laws of passes, and of a reader's walks.
 pub mod Laws
-mod Lent
