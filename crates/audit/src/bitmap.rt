@@ -13,14 +13,14 @@ use manager::Chunk;
 use report::{Cursor, Ending, Step, steps};
 
 // Where the marking of bits came to, and the zeros before.
-#[derive(Drop)]
+#[derive(Clone, Copy)]
 struct BitStep {
     step: Step,
     zeros: u64,
 }
 
 // How the marking of bits ended, and its zeros.
-#[derive(Drop)]
+#[derive(Clone, Copy)]
 struct Zeros {
     ending: Ending,
     zeros: u64,

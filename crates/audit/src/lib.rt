@@ -12,7 +12,7 @@ pub mod unlogged;
 mod whole;
 
 // What the audit has counted: ring is how many different indices the free list of the pool bitmap's ring has.
-#[derive(Drop)]
+#[derive(Clone, Copy)]
 pub struct Audit {
     pub problems: ProblemLog,
     pub free: u64,
@@ -21,14 +21,14 @@ pub struct Audit {
 }
 
 // What was counted after a step; where the step was refused, it says nothing.
-#[derive(Drop)]
+#[derive(Clone, Copy)]
 pub struct Audited {
     pub ending: Ending,
     pub audit: Audit,
 }
 
 // What was counted after a step along a list, and where it came to.
-#[derive(Drop)]
+#[derive(Clone, Copy)]
 pub(crate) struct AuditStep {
     pub step: Step,
     pub audit: Audit,

@@ -9,7 +9,7 @@ ghost use Rattle.blocks.specs.clauses.Images.{bytes};
 ghost use Rattle.blocks.specs.clauses.Answers.{there_as, number_as, Always, Sees, SeesIn};
 
 // Why a pass gives no report, in checking order: specs/Refusals.antt has the number of each.
-#[derive(Drop)]
+#[derive(Clone, Copy)]
 pub enum Refusal {
     ShortImage,
     NoMagic,
@@ -38,14 +38,14 @@ pub enum Refusal {
 }
 
 // An object's id and a block's address never interchange: the checkpoint map and, for volumes, the object map turn one into the other.
-#[derive(Drop)]
+#[derive(Clone, Copy)]
 pub struct ObjectId(pub u64);
 
-#[derive(Drop)]
+#[derive(Clone, Copy)]
 pub struct Address(pub u64);
 
 // What a read needs to know of the container: its blocks, and the transaction that the check looks at.
-#[derive(Drop)]
+#[derive(Clone, Copy)]
 pub struct Container {
     pub size: u64,
     pub count: u64,
@@ -85,21 +85,21 @@ pub fn number_of(why: Refusal) -> u8
 }
 
 // The image as it is lent, and the size of its blocks. Once the size is known, every block is read through a reader.
-#[derive(Drop)]
+#[derive(Clone, Copy)]
 pub struct Reader<'a> {
     pub image: &'a [u8],
     pub size: u64,
 }
 
 // Whether a block may be read: what is read is `block`.
-#[derive(Drop)]
+#[derive(Clone, Copy)]
 pub enum Presence {
     There,
     Refused(Refusal),
 }
 
 // The address of a block that may be read, or why there is none.
-#[derive(Drop)]
+#[derive(Clone, Copy)]
 pub enum AddressAnswer {
     Given(Address),
     Refused(Refusal),
@@ -203,7 +203,7 @@ pub fn object_block(image: &[u8], container: Container, address: Address) -> Pre
 }
 
 // A number, or why there is none.
-#[derive(Drop)]
+#[derive(Clone, Copy)]
 pub enum NumberAnswer {
     Given(u64),
     Refused(Refusal),

@@ -61,9 +61,9 @@ module _ (n : ℕ) where
       go true p later q = power_pages n k low (omega arith) (eqb-true _ _ p)
       go false p later q = later q
 
-pub size_allowed : (n : ℕ) → size_allowed n ≡ true → Allowed n
+pub allowed_size : (n : ℕ) → size_allowed n ≡ true → Allowed n
 unfolding size_allowed
-size_allowed n e = from_allowed n 5 12 (omega arith) (omega arith) e
+allowed_size n e = from_allowed n 5 12 (omega arith) (omega arith) e
 
 -- where each of refusals 3 to 8 is given
 module _ (len room : ℕ) (g : Geometry) where
@@ -139,7 +139,7 @@ geometry_given len room b g e =
     let p₇ = need_held no_blocks _ _ _ g p₆.1 in
     let p₈ = need_held no_blocks _ _ _ g p₇.1 in
     subst (λ (h : Geometry). Opens len room h) (same _ g p₈.1) (record {
-      size = size_allowed _ p₃.0;
+      size = allowed_size _ p₃.0;
       some = ltb-true _ _ (and_left (ltb 0 (block_count b)) (leb (block_count b) (2 ^ 32 - 1)) p₄.0);
       few = leb-true _ _ (and_right (ltb 0 (block_count b)) (leb (block_count b) (2 ^ 32 - 1)) p₄.0);
       whole = leb-true _ _ p₅.0;

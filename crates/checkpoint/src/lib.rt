@@ -9,7 +9,7 @@ pub mod choice;
 pub mod superblock;
 
 // What block 0 says: block size and count, and where the descriptor area lies.
-#[derive(Drop)]
+#[derive(Clone, Copy)]
 pub struct Geometry {
     pub size: u64,
     pub count: u64,
@@ -17,14 +17,14 @@ pub struct Geometry {
     pub ring: u64,
 }
 
-#[derive(Drop)]
+#[derive(Clone, Copy)]
 pub enum GeometryAnswer {
     Given(Geometry),
     Refused(Refusal),
 }
 
 // The checkpoint that a pass takes: its container, the descriptor area that block 0 names, and where its superblock stands.
-#[derive(Drop)]
+#[derive(Clone, Copy)]
 pub struct Checkpoint {
     pub container: Container,
     pub geometry: Geometry,
@@ -32,33 +32,33 @@ pub struct Checkpoint {
 }
 
 // A sound superblock: its place in the descriptor area, and its transaction.
-#[derive(Drop)]
+#[derive(Clone, Copy)]
 pub struct Candidate {
     pub at: u64,
     pub xid: u64,
 }
 
-#[derive(Drop)]
+#[derive(Clone, Copy)]
 pub enum Best {
     Superblock(Candidate),
     Nothing,
 }
 
-#[derive(Drop)]
+#[derive(Clone, Copy)]
 pub enum ContainerAnswer {
     Given(Container),
     Refused(Refusal),
 }
 
 // Where a block of a chain stands, unless its address is a bad one.
-#[derive(Drop)]
+#[derive(Clone, Copy)]
 pub(crate) enum Link {
     At(Address),
     Outside,
 }
 
 // Whether a block of a chain loads, and is the last.
-#[derive(Drop)]
+#[derive(Clone, Copy)]
 pub(crate) enum LinkTest {
     Fails,
     Ends,
@@ -66,21 +66,21 @@ pub(crate) enum LinkTest {
 }
 
 // An entry of the checkpoint map: the only passage from an object's id to its address.
-#[derive(Drop)]
+#[derive(Clone, Copy)]
 pub struct Mapping {
     pub id: ObjectId,
     pub size: u64,
     pub address: Address,
 }
 
-#[derive(Drop)]
+#[derive(Clone, Copy)]
 pub enum Mapped {
     To(Mapping),
     Nowhere,
 }
 
 // What one block of a chain says of an id.
-#[derive(Drop)]
+#[derive(Clone, Copy)]
 pub(crate) enum LinkLookup {
     Found(Mapping),
     Ends,

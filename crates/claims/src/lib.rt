@@ -44,14 +44,14 @@ pub const EXTENT_NODE: u8 = 10;
 pub const SNAPSHOT_NODE: u8 = 11;
 
 // How a claim ended, and the overlaps counted so far.
-#[derive(Drop)]
+#[derive(Clone, Copy)]
 pub struct Claimed {
     pub ending: Ending,
     pub log: OverlapLog,
 }
 
 // Where a claim came to along its blocks, or claims along what they are for, and the overlaps counted so far.
-#[derive(Drop)]
+#[derive(Clone, Copy)]
 pub struct ClaimStep {
     pub step: Step,
     pub log: OverlapLog,

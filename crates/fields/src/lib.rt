@@ -24,7 +24,7 @@ pub const BYTE_BITS: u64 = 8;
 const NUMBER_BITS: u64 = 64;
 
 // What stands at a place: a number, or nothing where the field isn't wholly inside its bytes.
-#[derive(Drop)]
+#[derive(Clone, Copy)]
 pub enum Field {
     Value(u64),
     Absent,

@@ -10,7 +10,7 @@ use fields::wide;
 const M: u64 = 4294967295;
 
 // s is the sum of the words, t the sum of the running sums.
-#[derive(Drop)]
+#[derive(Clone, Copy)]
 pub struct Sums {
     pub s: u64,
     pub t: u64,

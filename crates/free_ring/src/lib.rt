@@ -10,7 +10,7 @@ pub(crate) const SET_BYTES: usize = 8192;
 
 // The list of unused blocks as a manager has it: its first and last index, where the table that leads along it stands, and how many
 // blocks the ring has, for each of which the table has an entry.
-#[derive(Drop)]
+#[derive(Clone, Copy)]
 pub(crate) struct FreeList {
     pub head: u64,
     pub tail: u64,
@@ -19,7 +19,7 @@ pub(crate) struct FreeList {
 }
 
 // How a walk along the list ends: at its tail, again at an index, or at one that the ring doesn't have.
-#[derive(Drop)]
+#[derive(Clone, Copy)]
 pub enum RingEnd {
     Tail,
     Again(u64),
@@ -27,7 +27,7 @@ pub enum RingEnd {
 }
 
 // How a walk ended, and how many indices it visited.
-#[derive(Drop)]
+#[derive(Clone, Copy)]
 pub(crate) struct Walked {
     pub ending: RingEnd,
     pub count: u64,

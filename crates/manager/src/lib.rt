@@ -11,7 +11,7 @@ pub mod offsets;
 pub mod place;
 
 // A run of blocks with one bitmap.
-#[derive(Drop)]
+#[derive(Clone, Copy)]
 pub struct Chunk {
     pub start: u64,
     pub blocks: u64,
@@ -20,7 +20,7 @@ pub struct Chunk {
 }
 
 // Where a manager stands: the data area's base and its length as stored, the mapped address, and the manager's bytes.
-#[derive(Drop)]
+#[derive(Clone, Copy)]
 pub struct Manager {
     pub base: u64,
     pub blocks: u64,
@@ -29,21 +29,21 @@ pub struct Manager {
 }
 
 // What holds a list of addresses: the manager, or one block.
-#[derive(Drop)]
+#[derive(Clone, Copy)]
 pub enum Holder {
     InManager(Manager),
     InBlock(Address),
 }
 
 // A list of addresses: what holds it, from which byte on it stands there, and how many it has.
-#[derive(Drop)]
+#[derive(Clone, Copy)]
 pub struct AddressList {
     pub holder: Holder,
     pub at: u64,
     pub count: u64,
 }
 
-#[derive(Drop)]
+#[derive(Clone, Copy)]
 pub enum ManagerAnswer {
     Given(Manager),
     Refused(Refusal),

@@ -18,14 +18,14 @@ pub(crate) const CHECKSUM: usize = 8;
 pub(crate) const DESCRIPTION: usize = 40;
 
 // The sizes of keys and values: one for all, as the tree's description states them, or each its own.
-#[derive(Drop)]
+#[derive(Clone, Copy)]
 pub enum Sizes {
     Fixed(u32, u32),
     Variable,
 }
 
 // What a node's headers say besides what follows from its entries; `obj_type` is the whole type, of which a kind is the low half.
-#[derive(Drop)]
+#[derive(Clone, Copy)]
 pub struct NodeHeader {
     pub oid: u64,
     pub xid: u64,
@@ -36,21 +36,21 @@ pub struct NodeHeader {
 }
 
 // The bytes of all keys and of all values, with their padding.
-#[derive(Drop)]
+#[derive(Clone, Copy)]
 pub(crate) struct Measured {
     pub keys: u64,
     pub values: u64,
 }
 
 // What lengths come to, where there are as many bytes.
-#[derive(Drop)]
+#[derive(Clone, Copy)]
 pub(crate) enum Measure {
     There(Measured),
     Outside,
 }
 
 // How a node is laid out: padded or not, the space for table, keys and values, the slots reserved, and the bytes of the three.
-#[derive(Drop)]
+#[derive(Clone, Copy)]
 pub(crate) struct Plan {
     pub packed: bool,
     pub room: u64,
@@ -61,7 +61,7 @@ pub(crate) struct Plan {
 }
 
 // How a request ends.
-#[derive(Drop)]
+#[derive(Clone, Copy)]
 pub enum Built {
     Done,
     OutsideBytes,

@@ -8,7 +8,7 @@ pub mod node;
 pub mod object_map;
 
 // What a root says of its tree.
-#[derive(Drop)]
+#[derive(Clone, Copy)]
 pub struct Description {
     pub flags: u64,
     pub key: u64,
@@ -16,7 +16,7 @@ pub struct Description {
 }
 
 // One row of a node's table: where a key and its value stand, and how long they are.
-#[derive(Drop)]
+#[derive(Clone, Copy)]
 pub struct Slot {
     pub koff: u64,
     pub klen: u64,
@@ -25,51 +25,51 @@ pub struct Slot {
 }
 
 // A part of a node: where it begins, and how long it is.
-#[derive(Drop)]
+#[derive(Clone, Copy)]
 pub struct Part {
     pub at: u64,
     pub len: u64,
 }
 
-#[derive(Drop)]
+#[derive(Clone, Copy)]
 pub enum Value {
     Ghost,
     At(Part),
 }
 
 // Where an entry's key and value stand in their node.
-#[derive(Drop)]
+#[derive(Clone, Copy)]
 pub struct EntryPlace {
     pub key: Part,
     pub value: Value,
 }
 
-#[derive(Drop)]
+#[derive(Clone, Copy)]
 pub enum DescriptionAnswer {
     Given(Description),
     Refused(Refusal),
 }
 
-#[derive(Drop)]
+#[derive(Clone, Copy)]
 pub(crate) enum SlotAnswer {
     Given(Slot),
     Refused(Refusal),
 }
 
 // A part that must lie wholly inside its node.
-#[derive(Drop)]
+#[derive(Clone, Copy)]
 pub(crate) enum PartAnswer {
     Given(Part),
     Refused(Refusal),
 }
 
-#[derive(Drop)]
+#[derive(Clone, Copy)]
 pub(crate) enum ValueAnswer {
     Given(Value),
     Refused(Refusal),
 }
 
-#[derive(Drop)]
+#[derive(Clone, Copy)]
 pub enum EntryAnswer {
     Given(EntryPlace),
     Refused(Refusal),

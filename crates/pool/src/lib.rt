@@ -20,7 +20,7 @@ const PIECE: u64 = 32768;
 
 // Where the pool lies, and through what its bitmap is found: the manager, the ring of its bitmap blocks, how many of these there
 // are, and where in the manager their places in the ring are listed.
-#[derive(Drop)]
+#[derive(Clone, Copy)]
 pub struct PoolPlace {
     pub manager: Manager,
     pub base: u64,

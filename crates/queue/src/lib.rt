@@ -22,13 +22,13 @@ const COUNT: usize = 0;
 const GHOST_COUNT: u64 = 1;
 
 // The blocks that an entry names.
-#[derive(Drop)]
+#[derive(Clone, Copy)]
 pub struct Run {
     pub start: u64,
     pub count: u64,
 }
 
-#[derive(Drop)]
+#[derive(Clone, Copy)]
 pub enum RunAnswer {
     Given(Run),
     Refused(Refusal),

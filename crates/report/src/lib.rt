@@ -13,21 +13,21 @@ pub const LOGGED: usize = 10;
 pub const KINDS: usize = 11;
 
 // Something wrong with a block of the internal pool, or of the ring of its bitmap.
-#[derive(Drop)]
+#[derive(Clone, Copy)]
 pub struct Problem {
     pub kind: u8,
     pub block: u64,
 }
 
 // All problems counted, and the first ones.
-#[derive(Drop)]
+#[derive(Clone, Copy)]
 pub struct ProblemLog {
     pub total: u64,
     pub first: [Problem; LOGGED],
 }
 
 // A block that one kind owns and a later one claimed.
-#[derive(Drop)]
+#[derive(Clone, Copy)]
 pub struct Overlap {
     pub block: u64,
     pub owner: u8,
@@ -35,55 +35,55 @@ pub struct Overlap {
 }
 
 // All overlaps counted by the kind that came second, and the first ones.
-#[derive(Drop)]
+#[derive(Clone, Copy)]
 pub struct OverlapLog {
     pub claimants: [u64; KINDS],
     pub first: [Overlap; LOGGED],
 }
 
 // Blocks that a kind owns and no bitmap marks, and the lowest of them.
-#[derive(Drop)]
+#[derive(Clone, Copy)]
 pub struct Lost {
     pub count: u64,
     pub first: u64,
 }
 
 // How a pass ended, or a step of it that doesn't move on.
-#[derive(Drop)]
+#[derive(Clone, Copy)]
 pub enum Ending {
     Done,
     Refused(Refusal),
 }
 
 // Where a step along blocks, bits or entries has come to: the next of them, and how many are left.
-#[derive(Drop)]
+#[derive(Clone, Copy)]
 pub struct Cursor {
     pub next: u64,
     pub left: u64,
 }
 
 // A step that moves on, or why it doesn't. What it logs stands beside it, since logs hold arrays.
-#[derive(Drop)]
+#[derive(Clone, Copy)]
 pub enum Step {
     On(Cursor),
     Refused(Refusal),
 }
 
 // A log after a step; where the step was refused, the log as it was.
-#[derive(Drop)]
+#[derive(Clone, Copy)]
 pub struct LoggedProblem {
     pub ending: Ending,
     pub log: ProblemLog,
 }
 
-#[derive(Drop)]
+#[derive(Clone, Copy)]
 pub struct LoggedOverlap {
     pub ending: Ending,
     pub log: OverlapLog,
 }
 
 // What a pass finds. Unfilled places are 0.
-#[derive(Drop)]
+#[derive(Clone, Copy)]
 pub struct Report {
     pub xid: u64,
     pub pool_used: u64,
@@ -100,7 +100,7 @@ pub struct Report {
 }
 
 // How a pass ended, and its report: all zero where it was refused.
-#[derive(Drop)]
+#[derive(Clone, Copy)]
 pub struct Answer {
     pub ending: Ending,
     pub report: Report,

@@ -24,14 +24,14 @@ const INCONSISTENT: u8 = 2;
 const ROW: usize = 128;
 
 // Of a row: blocks used, blocks leaked, and the greatest kind that lost one, or UNOWNED.
-#[derive(Drop)]
+#[derive(Clone, Copy)]
 struct Counts {
     used: u8,
     leaked: u8,
     lost: u8,
 }
 
-#[derive(Drop)]
+#[derive(Clone, Copy)]
 pub struct Totals {
     pub used: u64,
     pub leaked: u64,

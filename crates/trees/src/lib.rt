@@ -14,7 +14,7 @@ mod scans;
 pub mod walks;
 
 // What the entries of a scanned tree are for.
-#[derive(Drop)]
+#[derive(Clone, Copy)]
 pub(crate) enum Purpose {
     PoolQueue,
     Mappings,
@@ -22,7 +22,7 @@ pub(crate) enum Purpose {
 }
 
 // A tree to scan.
-#[derive(Drop)]
+#[derive(Clone, Copy)]
 pub(crate) struct Tree {
     pub checkpoint: Checkpoint,
     pub pool: PoolPlace,
@@ -31,42 +31,42 @@ pub(crate) struct Tree {
 }
 
 // What a pass has counted: the audit's figures and the claims'.
-#[derive(Drop)]
+#[derive(Clone, Copy)]
 pub(crate) struct Figures {
     pub audit: Audit,
     pub overlaps: OverlapLog,
 }
 
 // The figures after a step that also changed the block map; where it was refused, they say nothing.
-#[derive(Drop)]
+#[derive(Clone, Copy)]
 pub(crate) struct Visited {
     pub ending: Ending,
     pub figures: Figures,
 }
 
 // The figures after a step along the entries of a leaf, and where it came to.
-#[derive(Drop)]
+#[derive(Clone, Copy)]
 pub(crate) struct VisitStep {
     pub step: Step,
     pub figures: Figures,
 }
 
 // A child of a node, and the cursor past it.
-#[derive(Drop)]
+#[derive(Clone, Copy)]
 pub(crate) struct Child {
     pub address: Address,
     pub rest: Cursor,
 }
 
 // A step along the children of a node.
-#[derive(Drop)]
+#[derive(Clone, Copy)]
 pub(crate) enum ChildStep {
     On(Child),
     Refused(Refusal),
 }
 
 // How a walk goes on at a node that was visited.
-#[derive(Drop)]
+#[derive(Clone, Copy)]
 pub(crate) enum Way {
     Leaf,
     Index,
@@ -74,14 +74,14 @@ pub(crate) enum Way {
 }
 
 // The claims' log after a node was visited.
-#[derive(Drop)]
+#[derive(Clone, Copy)]
 pub(crate) struct Entered {
     pub way: Way,
     pub log: OverlapLog,
 }
 
 // How a walk of the nodes below one ended, how many nodes may still come, and the claims' log.
-#[derive(Drop)]
+#[derive(Clone, Copy)]
 pub(crate) struct Walked {
     pub ending: Ending,
     pub left: u64,

@@ -9,7 +9,7 @@ pub mod own_trees;
 mod superblocks;
 
 // On which side of a lookup's target a key stands.
-#[derive(Drop)]
+#[derive(Clone, Copy)]
 pub(crate) enum Side {
     Above,
     NotAbove,
@@ -17,7 +17,7 @@ pub(crate) enum Side {
 }
 
 // Where a lookup goes from a node: to no entry, to one of its own, or down to a child.
-#[derive(Drop)]
+#[derive(Clone, Copy)]
 pub(crate) enum Turn {
     Nothing,
     At(EntryPlace),
@@ -26,14 +26,14 @@ pub(crate) enum Turn {
 }
 
 // An entry of a leaf: the leaf's block, and the entry's place in it.
-#[derive(Drop)]
+#[derive(Clone, Copy)]
 pub(crate) struct LeafEntry {
     pub node: Address,
     pub place: EntryPlace,
 }
 
 // The entry that a lookup reaches.
-#[derive(Drop)]
+#[derive(Clone, Copy)]
 pub(crate) enum Reached {
     Nothing,
     At(LeafEntry),

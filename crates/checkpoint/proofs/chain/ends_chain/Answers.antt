@@ -1,0 +1,6 @@
+use mathlib.Core.Path.{◌∙◌, refl}
+use borrow.Author.Rules.{rules}
+use Rattle.checkpoint.proofs.chain.ends_chain.Goals as goal
+
+pub returns : goal.returns
+returns c = c.has_bit.ensures ∙ rw c.u32_of.ensures.is refl

@@ -1,0 +1,18 @@
+use borrow.Author.Rules.{rules}
+use native.Mathlib.Omega.{arith}
+use native.Mathlib.Nat.{sub-zero}
+use Prim.Native.Nat.{◌-◌}
+use mathlib.Core.Path.{◌≡◌, refl, sym, ap, ◌∙◌}
+use Rattle.blocks.specs.Blocks.{block_of}
+use Rattle.checkpoint.specs.declared.Mapped.TheVariants.{Nowhere}
+use Rattle.checkpoint.specs.clauses.InPlace.{turns, looked_as, lookup_in}
+use Rattle.checkpoint.proofs.ChainLaws.{look_turn, turns_done, turns_stop, turns_onward, lookup_ring, lookup_none}
+use Rattle.checkpoint.proofs.chain.lookup_along.Given as goal
+
+abbrev pub invariant-loop-k : goal.invariant-loop-k
+invariant-loop-k l = turns (look_turn (block_of l.image l.size) l.geometry l.sb l.id) Nowhere (l.n - l.k) l.k ≡ turns (look_turn (block_of l.image l.size) l.geometry l.sb l.id) Nowhere l.n 0
+
+abbrev pub decreases-loop-k : goal.decreases-loop-k
+decreases-loop-k l = l.n - l.k
+
+-- what is left at the loop's head is the whole

@@ -1,0 +1,5 @@
+use borrow.Author.Rules.{rules}
+use Rattle.nodes.proofs.node.is_root.Goals as goal
+
+pub returns : goal.returns
+returns c = rw c.u16_of.ensures.is at c.has_bit.ensures
