@@ -7,6 +7,7 @@ use Rattle.blocks.specs.Blocks.{block_of}
 use Rattle.checkpoint.specs.Map.{chain}
 use Rattle.checkpoint.specs.clauses.InPlace.{turns, tested_as, loads}
 use Rattle.checkpoint.proofs.ChainLaws.{test_turn, turns_done, turns_stop, turns_onward, loads_ring}
+use Rattle.blocks.specs.Reads.{run}
 use Rattle.checkpoint.proofs.chain.loads.Goals.{At-loop-k}
 use Rattle.checkpoint.proofs.chain.loads.Goals as goal
 
