@@ -43,6 +43,7 @@ module _ (f : ℕ → List ℕ) (size : ℕ) (m : Manager) where
 
   bytes_at : (left j i : ℕ) → i < left → get_or (bytes_from f size m left j) i 0 ≡ byte_in f size m (j + i)
   unfolding bytes_from
+  bytes_at zero j i h = elim h [ ]
   bytes_at (suc left) j zero h = ap (byte_in f size m) (omega arith)
   bytes_at (suc left) j (suc i) h = bytes_at left (suc j) i (omega arith) ∙ ap (byte_in f size m) (omega arith)
 

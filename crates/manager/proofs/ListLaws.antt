@@ -63,6 +63,7 @@ module _ (f : ℕ → List ℕ) (w : ℕ) (sm : List ℕ) where
 
   pub list_outside : (n off : ℕ) → 0 < n → length sm < off + w * n → run f (list_from w sm n off) ≡ refused OutsideBytes
   unfolding list_from
+  list_outside zero off some h = elim some [ ]
   list_outside (suc n) off some h = go (dec_le (off + w) (length sm)) (list_outside n (off + w))
     where
       go : Dec (off + w ≤ length sm) → (0 < n → length sm < off + w + w * n → run f (list_from w sm n (off + w)) ≡ refused OutsideBytes)
@@ -129,6 +130,7 @@ values_length w sm (suc n) off = ap suc (values_length w sm n (off + w))
 
 pub values_at : (w : ℕ) (sm : List ℕ) (n off i : ℕ) → i < n → get_or (values w sm n off) i 0 ≡ num w sm (off + w * i)
 unfolding values
+values_at w sm zero off i h = elim h [ ]
 values_at w sm (suc n) off zero h = ap (num w sm) (omega (arith, mul-zero w))
 values_at w sm (suc n) off (suc i) h = values_at w sm n (off + w) i (omega arith) ∙ ap (num w sm) (omega (arith, mul-suc w i))
 
@@ -145,6 +147,7 @@ module _ (f : ℕ → List ℕ) (b : List ℕ) where
 
   pub chunks_outside : (n e : ℕ) → 0 < n → length b < e + 32 * n → run f (chunks_from b n e) ≡ refused OutsideBytes
   unfolding chunks_from
+  chunks_outside zero e some h = elim some [ ]
   chunks_outside (suc n) e some h = go (dec_le (e + 32) (length b)) (chunks_outside n (e + 32))
     where
       go : Dec (e + 32 ≤ length b) → (0 < n → length b < e + 32 + 32 * n → run f (chunks_from b n (e + 32)) ≡ refused OutsideBytes)
@@ -159,6 +162,7 @@ records_length b (suc n) e = ap suc (records_length b n (e + 32))
 
 pub records_at : (b : List ℕ) (n e i : ℕ) (none : Chunk) → i < n → get_or (records b n e) i none ≡ chunk_at b (e + 32 * i)
 unfolding records
+records_at b zero e i none h = elim h [ ]
 records_at b (suc n) e zero none h = ap (chunk_at b) (omega arith)
 records_at b (suc n) e (suc i) none h = records_at b n (e + 32) i none (omega arith) ∙ ap (chunk_at b) (omega arith)
 

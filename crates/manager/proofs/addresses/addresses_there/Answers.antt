@@ -1,0 +1,6 @@
+use mathlib.Core.Path.{sym}
+use borrow.Author.Rules.{rules}
+use Rattle.manager.proofs.addresses.addresses_there.Goals as goal
+
+pub returns : goal.returns
+returns c = c.list_there.ensures _ (sym c.bytes_held-size.ensures)

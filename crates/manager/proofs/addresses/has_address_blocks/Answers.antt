@@ -1,0 +1,7 @@
+use mathlib.Core.Path.{ap}
+use lib.Dec.{ltb}
+use borrow.Author.Rules.{rules}
+use Rattle.manager.proofs.addresses.has_address_blocks.Goals as goal
+
+pub returns : goal.returns
+returns c = ap (ltb 0) c.u32_of.ensures.is

@@ -1,0 +1,5 @@
+use borrow.Author.Rules.{rules}
+use Rattle.totals.proofs.counted.Goals as goal
+
+pub returns-then-met : goal.returns-then-met
+returns-then-met c = rw c.if-met.true
