@@ -23,6 +23,7 @@ module _ (f : ℕ → List ℕ) (size : ℕ) (p : PoolPlace) where
 
   pub bytes_at : (left j i : ℕ) → i < left → get_or (bitmap_bytes f size p left j) i 0 ≡ bitmap_byte f size p (j + i)
   unfolding bitmap_bytes
+  bytes_at zero j i h = elim h [ ]
   bytes_at (suc left) j zero h = ap (bitmap_byte f size p) (omega arith)
   bytes_at (suc left) j (suc i) h = bytes_at left (suc j) i (omega arith) ∙ ap (bitmap_byte f size p) (omega arith)
 

@@ -1,0 +1,11 @@
+use Rattle.std.proofs.Common.{◌-◌, ◌≤◌, refl, arith, rules}
+use Rattle.pool.proofs.Laws.{Counted, counted_few, counted_span, counted_done, block_fits, block_part}
+use Rattle.pool.specs.clauses.Place.{pool_in}
+use Rattle.blocks.specs.Blocks.{block_of}
+use Rattle.pool.proofs.unused_piece.Given as goal
+
+abbrev pub invariant-loop-i : goal.invariant-loop-i
+invariant-loop-i l = (l.first ≤ l.i) × (l.i ≤ l.end) × (l.n ≤ l.i) × Counted l.container (pool_in (block_of l.image l.container.size) l.container.size l.pool) l.map l.first l.end l.before l.i l.n
+
+abbrev pub decreases-loop-i : goal.decreases-loop-i
+decreases-loop-i l = l.end - l.i
