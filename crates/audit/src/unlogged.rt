@@ -1,6 +1,6 @@
 // An entry of the pool queue that logs nothing, as nearly every one does, is audited without the figures: to pass them by value copies their logs.
 ghost use Rattle.std.specs.Prelude.{◌≡◌, ◌+◌, ◌^◌, ◌<◌};
-ghost use Rattle.blocks.specs.clauses.Images.{bytes};
+ghost use Rattle.blocks.specs.clauses.Images.{bytes, bytes_lent};
 ghost use Rattle.pool.specs.clauses.Place.{pool_on};
 ghost use Rattle.audit.specs.clauses.Unlogged.{all_unused, used_from, unlogged_on, AuditsUnlogged};
 
@@ -36,7 +36,7 @@ fn all_unused(image: &[u8], map: &[u8], container: Container, place: PoolPlace, 
 
 fn use_run(map: &mut [u8], run: Run)
     requires { run.start + run.count < 2 ^ 64 }
-    ensures { map.new ≡ used_from run.count run.start (bytes map) }
+    ensures { map.new ≡ used_from run.count run.start (bytes_lent map) }
 {
     let mut i = 0;
     while i < run.count {

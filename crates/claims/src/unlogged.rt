@@ -1,6 +1,6 @@
 // Claims that overlap nothing, as most do: they are made without the log.
 ghost use Rattle.std.specs.Prelude.{◌≡◌, ◌-◌, ◌%◌, ◌<◌};
-ghost use Rattle.blocks.specs.clauses.Images.{bytes};
+ghost use Rattle.blocks.specs.clauses.Images.{bytes, bytes_lent};
 ghost use Rattle.nodes.specs.clauses.Answers.{entry_in};
 ghost use Rattle.claims.specs.Claims.{claim as claim_of};
 ghost use Rattle.claims.specs.clauses.Answers.{claiming_mapping, claiming_queued};
@@ -30,7 +30,7 @@ fn takes_all(map: &[u8], kind: u8, start: u64, end: u64) -> bool
 
 // Every block from start up to end gets an owner.
 fn own_all(map: &mut [u8], kind: u8, start: u64, end: u64)
-    ensures { map.new ≡ owned_from (kind % 16) (bytes map) (end - start) start }
+    ensures { map.new ≡ owned_from (kind % 16) (bytes_lent map) (end - start) start }
 {
     let mut a = start;
     while a < end {

@@ -1,6 +1,6 @@
 -- What the program prints for the bytes that it read.
 use Rattle.std.specs.Prelude.{List, ◌++◌, ◌≡◌, ℕ, length, drop, replicate}
-use Rattle.blocks.specs.clauses.Images.{Lent, bytes}
+use Rattle.blocks.specs.clauses.Images.{Lent, bytes, LentMut, bytes_lent}
 use Rattle.space_check.specs.Check.{check}
 use Rattle.listing_text.specs.Listing.{listing_of}
 
@@ -12,5 +12,5 @@ abbrev pub printed : List ℕ → List ℕ
 printed image = listing_of (check image (replicate map_bytes 0)).answer
 
 -- a buffer that begins with what is printed for an image, r bytes, and is else as it was
-abbrev pub Prints : Lent → ℕ → Lent → Type 0
-Prints text r image = (r ≡ length (printed (bytes image))) × (text.exit.now ≡ printed (bytes image) ++ drop r (bytes text))
+abbrev pub Prints : LentMut → ℕ → Lent → Type 0
+Prints text r image = (r ≡ length (printed (bytes image))) × (text.exit.now ≡ printed (bytes image) ++ drop r (bytes_lent text))

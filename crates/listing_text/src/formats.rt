@@ -1,6 +1,6 @@
 // A line by its format, in which # stands for a figure in decimal, @ for one in hexadecimal, and $ for a kind's name.
 ghost use Rattle.std.specs.Prelude.{◌≡◌, slice_index};
-ghost use Rattle.blocks.specs.clauses.Images.{bytes};
+ghost use Rattle.blocks.specs.clauses.Images.{bytes, bytes_lent};
 ghost use Rattle.listing_text.specs.Lines.{kind_name, piece, taken as Lines·taken, filled};
 ghost use Rattle.listing_text.specs.clauses.Writing.{up_to, put, Puts};
 
@@ -20,7 +20,7 @@ const HEXADECIMAL: u64 = 16;
 
 // Other numbers have no name; the check gives none.
 fn put_kind(out: &mut [u8], at: usize, kind: u64) -> usize
-    ensures { up_to out.new result ≡ put (kind_name kind) (up_to (bytes out) at) }
+    ensures { up_to out.new result ≡ put (kind_name kind) (up_to (bytes_lent out) at) }
 {
     let names = b"
 container superblock
@@ -40,7 +40,7 @@ snapshot tree node
 
 // A byte of a format, where the next figure is this one.
 fn put_piece(out: &mut [u8], at: usize, c: u8, figure: u64) -> usize
-    ensures { up_to out.new result ≡ put (piece c figure) (up_to (bytes out) at) }
+    ensures { up_to out.new result ≡ put (piece c figure) (up_to (bytes_lent out) at) }
 {
     if c == DECIMAL_SIGN {
         return put_numeral(out, at, DECIMAL, figure);

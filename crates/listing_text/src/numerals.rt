@@ -1,7 +1,7 @@
 // A number in a lent buffer, digit by digit at its place.
 ghost use Rattle.std.specs.Prelude.{◌≡◌, ◌+◌, ◌<◌, ◌≤◌, length};
 ghost use Rattle.std.proofs.Math.Seq.{paste};
-ghost use Rattle.blocks.specs.clauses.Images.{bytes};
+ghost use Rattle.blocks.specs.clauses.Images.{bytes_lent};
 ghost use Rattle.listing_text.specs.Text.{glyph as Text·glyph, digits, places as Text·places, numeral};
 ghost use Rattle.listing_text.specs.clauses.Writing.{Base, up_to, put};
 
@@ -30,7 +30,7 @@ fn places(base: u64, figure: u64) -> usize
 // The last k digits of a number, from the lowest place up.
 fn put_digits(out: &mut [u8], at: usize, base: u64, k: usize, figure: u64)
     requires { Base base × (at + k ≤ length out.old) }
-    ensures { out.new ≡ paste (bytes out) at (digits base k figure) k }
+    ensures { out.new ≡ paste (bytes_lent out) at (digits base k figure) k }
 {
     let mut left = k;
     let mut rest = figure;
@@ -44,7 +44,7 @@ fn put_digits(out: &mut [u8], at: usize, base: u64, k: usize, figure: u64)
 // Counted first: without room no byte may change.
 pub(crate) fn put_numeral(out: &mut [u8], at: usize, base: u64, figure: u64) -> usize
     requires { Base base }
-    ensures { up_to out.new result ≡ put (numeral base figure) (up_to (bytes out) at) }
+    ensures { up_to out.new result ≡ put (numeral base figure) (up_to (bytes_lent out) at) }
 {
     let end = out.len();
     if end < at {

@@ -1,10 +1,10 @@
 // A text in a lent buffer.
 ghost use Rattle.std.specs.Prelude.{◌≡◌};
-ghost use Rattle.blocks.specs.clauses.Images.{bytes};
+ghost use Rattle.blocks.specs.clauses.Images.{bytes, bytes_lent};
 ghost use Rattle.listing_text.specs.clauses.Writing.{up_to, put};
 
 pub(crate) fn put_text(out: &mut [u8], at: usize, text: &[u8]) -> usize
-    ensures { up_to out.new result ≡ put (bytes text) (up_to (bytes out) at) }
+    ensures { up_to out.new result ≡ put (bytes text) (up_to (bytes_lent out) at) }
 {
     let end = out.len();
     if end < at {

@@ -1,6 +1,6 @@
 // The whole node.
 ghost use Rattle.std.specs.Prelude.{◌≡◌, ◌≤◌, length, drop};
-ghost use Rattle.blocks.specs.clauses.Images.{bytes};
+ghost use Rattle.blocks.specs.clauses.Images.{bytes, bytes_lent};
 ghost use Rattle.node_build.specs.Build.{sealed};
 ghost use Rattle.node_build.specs.Asked.{request_of, made, build_from, build_node};
 ghost use Rattle.node_build.specs.clauses.Regions.{handed, Ready, Weighed, FillsAll};
@@ -13,7 +13,7 @@ use checkpoint::block_zero;
 // Seal last, over the finished node.
 fn seal(node: &mut [u8])
     requires { 8 ≤ length node.old }
-    ensures { node.new ≡ sealed (drop 8 (bytes node)) }
+    ensures { node.new ≡ sealed (drop 8 (bytes_lent node)) }
 {
     let sum = fletcher::checksum(node);
     writers::put(node, 0, CHECKSUM, sum);
@@ -49,7 +49,7 @@ fn build_formed(
     measured: Measured,
 ) -> Built
     requires { Weighed packed (handed header sizes info.now parts.now lengths.now) measured }
-    ensures { made result node.new ≡ build_from (bytes node) (request_of (handed header sizes (bytes info) (bytes parts) (bytes lengths))) }
+    ensures { made result node.new ≡ build_from (bytes_lent node) (request_of (handed header sizes (bytes info) (bytes parts) (bytes lengths))) }
 {
     let size = node.len() as u64;
     if !block_zero::size_allowed(size) {
@@ -74,7 +74,7 @@ pub fn build(
     parts: &[u8],
     lengths: &[u64],
 ) -> Built
-    ensures { made result node.new ≡ build_node (bytes node) (handed header sizes (bytes info) (bytes parts) (bytes lengths)) }
+    ensures { made result node.new ≡ build_node (bytes_lent node) (handed header sizes (bytes info) (bytes parts) (bytes lengths)) }
 {
     let packed = layout::is_packed(info);
     let measure = request::measure_all(packed, info, parts, lengths);

@@ -1,7 +1,7 @@
 // The regions of a node, each written from left to right over whatever stood there; only the values go from right to left.
 ghost use Rattle.std.specs.Prelude.{false, ◌≡◌, ◌+◌, ◌≤◌, length, take, drop};
 ghost use Rattle.fields.specs.Choice.{pick};
-ghost use Rattle.blocks.specs.clauses.Images.{bytes};
+ghost use Rattle.blocks.specs.clauses.Images.{bytes, bytes_lent};
 ghost use Rattle.nodes.specs.Node.{description_length};
 ghost use Rattle.node_build.specs.Build.{padded_length, padded, slot_width, slot_bytes, fixed_flag, flags as flags_of};
 ghost use Rattle.node_build.specs.Build.{object_header, shape, areas, description};
@@ -190,7 +190,7 @@ fn put_pairs(
     lengths: &[u64],
 ) -> usize
     requires { Entries parts.now lengths.now × PairsRoom packed parts.now lengths.now at end (length node.old) }
-    ensures { PairsFill packed (bytes parts) (bytes lengths) at end (bytes node) node.new result }
+    ensures { PairsFill packed (bytes parts) (bytes lengths) at end (bytes_lent node) node.new result }
 {
     let mut first = at;
     let mut last = end;

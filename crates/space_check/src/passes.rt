@@ -1,6 +1,6 @@
 // The whole pass: block 0, the superblock that is taken, and what follows.
 ghost use Rattle.std.specs.Prelude.{◌≡◌, ◌≤◌, length};
-ghost use Rattle.blocks.specs.clauses.Images.{bytes, Holds};
+ghost use Rattle.blocks.specs.clauses.Images.{bytes, Holds, bytes_lent};
 ghost use Rattle.space_check.specs.Check.{pass, check as check_of};
 ghost use Rattle.space_check.specs.clauses.Stages.{SettlesLate, Settles, rest_of, result_of, Ready, IsTakenAt};
 
@@ -64,7 +64,7 @@ fn check_in(image: &[u8], map: &mut [u8], geometry: Geometry) -> Answer
 
 // The answer on an image, and the block map that is left: a report, or the first refusal.
 pub fn check(image: &[u8], map: &mut [u8]) -> Answer
-    ensures { result_of result map.new ≡ check_of (bytes image) (bytes map) }
+    ensures { result_of result map.new ≡ check_of (bytes image) (bytes_lent map) }
 {
     let opened = checkpoint::block_zero::geometry(image, map.len());
     match opened {

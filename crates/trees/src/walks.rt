@@ -1,7 +1,7 @@
 // A physical walk claims a tree's nodes, parent first and last child first.
 ghost use Rattle.std.specs.Prelude.{◌≡◌, ◌-◌, ◌%◌, ◌<◌};
 ghost use Rattle.blocks.specs.Reads.{run};
-ghost use Rattle.blocks.specs.clauses.Images.{bytes, blocks_in};
+ghost use Rattle.blocks.specs.clauses.Images.{bytes, blocks_in, bytes_lent};
 ghost use Rattle.blocks.specs.clauses.Answers.{address_as};
 ghost use Rattle.nodes.specs.Walk.{walk_below, walk as walk_of};
 ghost use Rattle.report.specs.clauses.Steps.{Ahead};
@@ -52,7 +52,7 @@ fn enter(
     log: OverlapLog,
 ) -> Entered
     requires { NodeRead (blocks_in image container) container address.0 }
-    ensures { Enters (bytes image) container (kind % 16) description address.0 result (bytes map) map.new log }
+    ensures { Enters (bytes image) container (kind % 16) description address.0 result (bytes_lent map) map.new log }
 {
     let claimed = claims::claim_node(map, container, kind, address, log);
     let ending = claimed.ending;

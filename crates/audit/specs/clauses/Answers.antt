@@ -1,7 +1,7 @@
 -- Answers of the audit's steps, against passes of the definition.
 use Rattle.std.specs.Prelude.{List, ◌≡◌, ℕ, ◌+◌, ◌*◌}
 use Rattle.blocks.specs.Reads.{Reads}
-use Rattle.blocks.specs.clauses.Images.{Lent, bytes, blocks_in, Pass}
+use Rattle.blocks.specs.clauses.Images.{Lent, bytes, blocks_in, Pass, LentMut, bytes_lent}
 use Rattle.blocks.specs.declared.Address.{Address}
 use Rattle.blocks.specs.declared.Container.{Container}
 use Rattle.nodes.specs.clauses.Answers.{entry_in}
@@ -31,28 +31,28 @@ abbrev pub audited : List ℕ → Audit → Marked Audit
 audited map audit = record { map = map; figures = audit }
 
 -- a step over an image and a map ended as a pass over them does; and the same from what was audited before it
-abbrev pub AuditsOn : Lent → Lent → Container → Audited → Pass (List ℕ) (Marked Audit) → Type 0
+abbrev pub AuditsOn : Lent → LentMut → Container → Audited → Pass (List ℕ) (Marked Audit) → Type 0
 AuditsOn image map c r pass =
-    let f = blocks_in image.entry c in Stepped f c.count r.ending (bytes map) map.exit.now r.audit (pass f (bytes map))
+    let f = blocks_in image.entry c in Stepped f c.count r.ending (bytes_lent map) map.exit.now r.audit (pass f (bytes_lent map))
 
-abbrev pub AuditsAs : Lent → Lent → Container → Audit → Audited → Pass (Marked Audit) (Marked Audit) → Type 0
+abbrev pub AuditsAs : Lent → LentMut → Container → Audit → Audited → Pass (Marked Audit) (Marked Audit) → Type 0
 AuditsAs image map c audit r pass = AuditsOn image map c r (λ f m. pass f (audited m audit))
 
 -- the same of a step that leaves the map as it is, of one that reads no block, and of one that does neither
-abbrev pub AuditsStill : Lent → Lent → Container → Audit → Audited → Pass (Marked Audit) (Marked Audit) → Type 0
+abbrev pub AuditsStill : Lent → LentMut → Container → Audit → Audited → Pass (Marked Audit) (Marked Audit) → Type 0
 AuditsStill image map c audit r pass =
-    let f = blocks_in image.entry c in Stepped f c.count r.ending (bytes map) (bytes map) r.audit (pass f (audited (bytes map) audit))
+    let f = blocks_in image.entry c in Stepped f c.count r.ending (bytes_lent map) (bytes_lent map) r.audit (pass f (audited (bytes_lent map) audit))
 
-abbrev pub AuditsBlind : Lent → Container → Audit → Audited → (Marked Audit → Reads (Marked Audit)) → Type 0
-AuditsBlind map c audit r pass = (f : ℕ → List ℕ) → Stepped f c.count r.ending (bytes map) map.exit.now r.audit (pass (audited (bytes map) audit))
+abbrev pub AuditsBlind : LentMut → Container → Audit → Audited → (Marked Audit → Reads (Marked Audit)) → Type 0
+AuditsBlind map c audit r pass = (f : ℕ → List ℕ) → Stepped f c.count r.ending (bytes_lent map) map.exit.now r.audit (pass (audited (bytes_lent map) audit))
 
 abbrev pub Anywhere : Audit → Audited → (Marked Audit → Reads (Marked Audit)) → Type 0
 Anywhere audit r pass = (f : ℕ → List ℕ) (count : ℕ) (map : List ℕ) → Stepped f count r.ending map map r.audit (pass (audited map audit))
 
 -- a step from a cursor on, of what is left there
-abbrev pub AuditsNext : Lent → Lent → Container → Cursor → Audit → AuditStep → (Cursor → Pass (Marked Audit) (Marked Audit)) → Type 0
+abbrev pub AuditsNext : Lent → LentMut → Container → Cursor → Audit → AuditStep → (Cursor → Pass (Marked Audit) (Marked Audit)) → Type 0
 AuditsNext image map c at audit r rest =
-    let f = blocks_in image.entry c in Moves f c.count at r.step (audited (bytes map) audit) (audited map.exit.now r.audit) (λ to. rest to f)
+    let f = blocks_in image.entry c in Moves f c.count at r.step (audited (bytes_lent map) audit) (audited map.exit.now r.audit) (λ to. rest to f)
 
 -- the pool in a place
 abbrev pub pool_at : Container → PoolPlace → (ℕ → List ℕ) → Pool
@@ -95,15 +95,15 @@ abbrev pub queued_in : Container → PoolPlace → Lent → EntryPlace → Pass 
 queued_in c place node entry f s = audit_queued c (pool_at c place f) s (entry_in (bytes node) entry)
 
 -- a step of a bitmap's marking: whatever zeros were counted before; from those before it; and from a cursor on
-abbrev pub Marks : Lent → Container → Ending → (Marked ℕ → Reads (Marked ℕ)) → Type 0
-Marks map c r pass = (f : ℕ → List ℕ) (zeros : ℕ) → Stepped f c.count r (bytes map) map.exit.now zeros (pass (record { map = bytes map; figures = zeros }))
+abbrev pub Marks : LentMut → Container → Ending → (Marked ℕ → Reads (Marked ℕ)) → Type 0
+Marks map c r pass = (f : ℕ → List ℕ) (zeros : ℕ) → Stepped f c.count r (bytes_lent map) map.exit.now zeros (pass (record { map = bytes_lent map; figures = zeros }))
 
-abbrev pub MarksAs : Lent → Container → ℕ → Zeros → (Marked ℕ → Reads (Marked ℕ)) → Type 0
-MarksAs map c zeros r pass = (f : ℕ → List ℕ) → Stepped f c.count r.ending (bytes map) map.exit.now r.zeros (pass (record { map = bytes map; figures = zeros }))
+abbrev pub MarksAs : LentMut → Container → ℕ → Zeros → (Marked ℕ → Reads (Marked ℕ)) → Type 0
+MarksAs map c zeros r pass = (f : ℕ → List ℕ) → Stepped f c.count r.ending (bytes_lent map) map.exit.now r.zeros (pass (record { map = bytes_lent map; figures = zeros }))
 
-abbrev pub MarksNext : Lent → Container → Cursor → ℕ → BitStep → (Cursor → Marked ℕ → Reads (Marked ℕ)) → Type 0
+abbrev pub MarksNext : LentMut → Container → Cursor → ℕ → BitStep → (Cursor → Marked ℕ → Reads (Marked ℕ)) → Type 0
 MarksNext map c at zeros r rest =
-    (f : ℕ → List ℕ) → Moves f c.count at r.step (record { map = bytes map; figures = zeros }) (record { map = map.exit.now; figures = r.zeros }) rest
+    (f : ℕ → List ℕ) → Moves f c.count at r.step (record { map = bytes_lent map; figures = zeros }) (record { map = map.exit.now; figures = r.zeros }) rest
 
 -- the bits from a cursor on
 abbrev pub bits_left : Container → Lent → ℕ → Cursor → Marked ℕ → Reads (Marked ℕ)

@@ -2,7 +2,7 @@
 use Rattle.std.specs.Prelude.{Bool, true, false, List, ℕ, zero, suc, ◌+◌, ◌-◌, ◌*◌, ◌/◌, ◌≤◌, ◌<◌, min, length}
 use Rattle.fields.specs.Choice.{pick}
 use Rattle.fields.specs.Fields.{bit, bit_at}
-use Rattle.blocks.specs.clauses.Images.{Lent, bytes}
+use Rattle.blocks.specs.clauses.Images.{Lent, bytes, LentMut, bytes_lent}
 use Rattle.block_map.specs.BlockMap.{Marked, update, marked}
 
 -- the block of one bit: a set bit marks it, a clear one is counted
@@ -16,8 +16,8 @@ bits_marked bits start zero i s = s
 bits_marked bits start (suc left) i s = bits_marked bits start left (i + 1) (bit_marked (bit_at bits i) (start + i) s)
 
 -- so many bits of a bitmap from i on, marked in a map after so many zeros
-abbrev pub bits_on : Lent → ℕ → ℕ → ℕ → Lent → ℕ → Marked ℕ
-bits_on bits start n i map zeros = bits_marked (bytes bits) start n i (record { map = bytes map; figures = zeros })
+abbrev pub bits_on : Lent → ℕ → ℕ → ℕ → LentMut → ℕ → Marked ℕ
+bits_on bits start n i map zeros = bits_marked (bytes bits) start n i (record { map = bytes_lent map; figures = zeros })
 
 -- how many of the lowest n bits of a byte are set
 unfoldable pub ones_in : ℕ → ℕ → ℕ

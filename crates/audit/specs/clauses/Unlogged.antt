@@ -1,7 +1,7 @@
 -- Runs of blocks in the pool queue that log nothing.
 use Rattle.std.specs.Prelude.{Bool, true, false, not, ◌&&◌, List, ℕ, zero, suc, ◌+◌, leb}
 use Rattle.blocks.specs.Reads.{Outcome, given, refused, run, no_blocks}
-use Rattle.blocks.specs.clauses.Images.{Lent, bytes, blocks_in}
+use Rattle.blocks.specs.clauses.Images.{Lent, bytes, blocks_in, LentMut, bytes_lent}
 use Rattle.blocks.specs.declared.Container.{Container}
 use Rattle.nodes.specs.clauses.Answers.{entry_in}
 use Rattle.nodes.specs.declared.EntryPlace.{EntryPlace}
@@ -29,10 +29,10 @@ unfoldable pub unlogged_run : Container → Pool → List ℕ → Outcome Run �
 unlogged_run c p map (refused r) = false
 unlogged_run c p map (given run) = leb (run.start + run.count) c.count && all_unused c p map run.count run.start
 
-abbrev pub unlogged_on : Lent → Lent → Container → PoolPlace → Lent → EntryPlace → Bool
-unlogged_on image map c place node entry = unlogged_run c (pool_on image c place) (bytes map) (run no_blocks (run_of (entry_in (bytes node) entry)))
+abbrev pub unlogged_on : Lent → LentMut → Container → PoolPlace → Lent → EntryPlace → Bool
+unlogged_on image map c place node entry = unlogged_run c (pool_on image c place) (bytes_lent map) (run no_blocks (run_of (entry_in (bytes node) entry)))
 
 -- the entry was audited where it logs nothing
-abbrev pub AuditsUnlogged : Lent → Lent → Container → PoolPlace → Lent → EntryPlace → Bool → Type 0
+abbrev pub AuditsUnlogged : Lent → LentMut → Container → PoolPlace → Lent → EntryPlace → Bool → Type 0
 AuditsUnlogged image map c place node entry r =
-    let f = blocks_in image.entry c in Unlogged f c.count r (bytes map) map.exit.now (queued_in c place node entry f)
+    let f = blocks_in image.entry c in Unlogged f c.count r (bytes_lent map) map.exit.now (queued_in c place node entry f)

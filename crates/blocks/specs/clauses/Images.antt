@@ -1,6 +1,7 @@
 -- Slices as they are lent, the image among them, and passes over its blocks.
 use Rattle.std.specs.Prelude.{List, ◌≡◌, ℕ, ◌*◌, ◌%◌, ◌≤◌, ◌<◌, length}
 use Rattle.std.specs.Borrow.{Bor}
+use denote.MutBor.{MutBor}
 use denote.Triple.Both.{Both}
 use Rattle.blocks.specs.Reads.{Reads}
 use Rattle.blocks.specs.Blocks.{block_of}
@@ -13,6 +14,14 @@ Lent = Both (Bor (List ℕ)) (Bor (List ℕ))
 -- what it held when it was lent
 abbrev pub bytes : Lent → List ℕ
 bytes s = s.entry.now
+
+-- a slice that is lent to be written, the block map among them: as it was lent, and as it was given back
+abbrev pub LentMut : Type 0
+LentMut = Both (MutBor (List ℕ)) (MutBor (List ℕ))
+
+-- what it held when it was lent
+abbrev pub bytes_lent : LentMut → List ℕ
+bytes_lent s = s.entry.now
 
 -- the blocks of an image, by their numbers
 abbrev pub blocks_in : Bor (List ℕ) → Container → ℕ → List ℕ

@@ -1,7 +1,7 @@
 -- What the answers of the code stand for.
 use Rattle.std.specs.Prelude.{List, ℕ, ◌+◌, ◌≤◌}
 use Rattle.blocks.specs.Reads.{Reads}
-use Rattle.blocks.specs.clauses.Images.{Lent, bytes}
+use Rattle.blocks.specs.clauses.Images.{LentMut, bytes_lent}
 use Rattle.blocks.specs.declared.Container.{Container}
 use Rattle.nodes.specs.Node.{Entry}
 use Rattle.block_map.specs.BlockMap.{Marked}
@@ -21,8 +21,8 @@ abbrev pub ClaimedAs : ℕ → Claimed → List ℕ → List ℕ → Reads (Mark
 ClaimedAs count r before after defined = (f : ℕ → List ℕ) → Stepped f count r.ending before after r.log defined
 
 -- a claim on the map that is lent, by what was counted before it
-abbrev pub Claims : Lent → Container → OverlapLog → Claimed → (Marked OverlapLog → Reads (Marked OverlapLog)) → Type 0
-Claims map c log r pass = ClaimedAs c.count r (bytes map) map.exit.now (pass (owned (bytes map) log))
+abbrev pub Claims : LentMut → Container → OverlapLog → Claimed → (Marked OverlapLog → Reads (Marked OverlapLog)) → Type 0
+Claims map c log r pass = ClaimedAs c.count r (bytes_lent map) map.exit.now (pass (owned (bytes_lent map) log))
 
 -- the blocks from a cursor on, and where they end
 abbrev pub blocks_left : ℕ → Cursor → Marked OverlapLog → Reads (Marked OverlapLog)
@@ -32,15 +32,15 @@ abbrev pub end_of : Cursor → ℕ
 end_of at = at.next + at.left
 
 -- a claim of blocks before an end, for any block count that the end isn't past; so for the block at a cursor, and for blocks from a cursor on with no overlap
-abbrev pub ClaimsTo : Lent → ℕ → OverlapLog → Claimed → (Marked OverlapLog → Reads (Marked OverlapLog)) → Type 0
-ClaimsTo map end log r pass = (count : ℕ) → end ≤ count → ClaimedAs count r (bytes map) map.exit.now (pass (owned (bytes map) log))
+abbrev pub ClaimsTo : LentMut → ℕ → OverlapLog → Claimed → (Marked OverlapLog → Reads (Marked OverlapLog)) → Type 0
+ClaimsTo map end log r pass = (count : ℕ) → end ≤ count → ClaimedAs count r (bytes_lent map) map.exit.now (pass (owned (bytes_lent map) log))
 
-abbrev pub ClaimsNext : Lent → Cursor → OverlapLog → ClaimStep → (Cursor → Marked OverlapLog → Reads (Marked OverlapLog)) → Type 0
+abbrev pub ClaimsNext : LentMut → Cursor → OverlapLog → ClaimStep → (Cursor → Marked OverlapLog → Reads (Marked OverlapLog)) → Type 0
 ClaimsNext map at log r rest =
-    (count : ℕ) → end_of at ≤ count → (f : ℕ → List ℕ) → Moves f count at r.step (owned (bytes map) log) (owned map.exit.now r.log) rest
+    (count : ℕ) → end_of at ≤ count → (f : ℕ → List ℕ) → Moves f count at r.step (owned (bytes_lent map) log) (owned map.exit.now r.log) rest
 
-abbrev pub Owns : Lent → Cursor → Cursor → (Cursor → Marked OverlapLog → Reads (Marked OverlapLog)) → Type 0
-Owns map from to rest = (count : ℕ) → end_of from ≤ count → (f : ℕ → List ℕ) → MovesUnlogged f count from to (bytes map) map.exit.now rest
+abbrev pub Owns : LentMut → Cursor → Cursor → (Cursor → Marked OverlapLog → Reads (Marked OverlapLog)) → Type 0
+Owns map from to rest = (count : ℕ) → end_of from ≤ count → (f : ℕ → List ℕ) → MovesUnlogged f count from to (bytes_lent map) map.exit.now rest
 
 -- the claims of an entry, by the state that they are made in
 abbrev pub claiming_mapping : Container → Entry → Marked OverlapLog → Reads (Marked OverlapLog)

@@ -3,7 +3,7 @@ use Rattle.std.specs.Prelude.{Bool, true, false, ◌&&◌, ◌||◌, List, ◌�
 use Rattle.std.proofs.Math.Option.{Option, some, none}
 use Rattle.blocks.specs.Reads.{Reads, Outcome, given, refused, run, no_blocks}
 use Rattle.blocks.specs.Blocks.{sum}
-use Rattle.blocks.specs.clauses.Images.{Lent, bytes}
+use Rattle.blocks.specs.clauses.Images.{LentMut, bytes_lent}
 use Rattle.blocks.specs.declared.Container.{Container}
 use Rattle.nodes.specs.Node.{Entry}
 use Rattle.nodes.specs.ObjectMap.{is_deleted}
@@ -44,5 +44,5 @@ unfoldable pub unlogged_queued : Container → Entry → List ℕ → Bool
 unlogged_queued c e map = meets (run no_blocks (run_of e)) (λ r. unlogged_claim c free_queue r.start r.count map)
 
 -- a claim on the map that is lent, made where a test of the map holds, and there alone: it then logs nothing
-abbrev pub ClaimsUnlogged : Lent → Container → Bool → (List ℕ → Bool) → (Marked OverlapLog → Reads (Marked OverlapLog)) → Type 0
-ClaimsUnlogged map c r test pass = (r ≡ test (bytes map)) × ((f : ℕ → List ℕ) → Unlogged f c.count r (bytes map) map.exit.now pass)
+abbrev pub ClaimsUnlogged : LentMut → Container → Bool → (List ℕ → Bool) → (Marked OverlapLog → Reads (Marked OverlapLog)) → Type 0
+ClaimsUnlogged map c r test pass = (r ≡ test (bytes_lent map)) × ((f : ℕ → List ℕ) → Unlogged f c.count r (bytes_lent map) map.exit.now pass)

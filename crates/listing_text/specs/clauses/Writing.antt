@@ -2,7 +2,7 @@
 use Rattle.std.specs.Prelude.{◌≡◌, ℕ, ◌+◌, ◌≤◌, List, [], ◌∷◌, length, nat_le}
 use Rattle.std.proofs.Math.Seq.{paste}
 use Rattle.fields.specs.Choice.{pick}
-use Rattle.blocks.specs.clauses.Images.{Lent}
+use Rattle.blocks.specs.clauses.Images.{LentMut, bytes}
 
 -- a buffer's bytes, and the place up to which it is written
 pub data Written : Type 0 where
@@ -21,7 +21,7 @@ put_all [] w = w
 put_all (t ∷ ts) w = put_all ts (put t w)
 
 -- a lent buffer into which pieces were put from a place on, up to the place answered
-abbrev pub Puts : Lent → ℕ → ℕ → List (List ℕ) → Type 0
+abbrev pub Puts : LentMut → ℕ → ℕ → List (List ℕ) → Type 0
 Puts out at r pieces = up_to out.exit.now r ≡ put_all pieces (up_to out.entry.now at)
 
 -- the bases that numbers are written in: in a lower one some of 64 bits have more than `most_digits` digits, and for a higher one

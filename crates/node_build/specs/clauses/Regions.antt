@@ -1,6 +1,6 @@
 -- What the writers of a node's regions leave, and what they are lent.
 use Rattle.std.specs.Prelude.{Bool, true, List, ◌++◌, ◌≡◌, ℕ, ◌+◌, ◌-◌, ◌*◌, ◌/◌, ◌≤◌, length, replicate}
-use Rattle.blocks.specs.clauses.Images.{Lent, bytes}
+use Rattle.blocks.specs.clauses.Images.{Lent, bytes, LentMut, bytes_lent}
 use Rattle.writers.specs.clauses.Wrote.{written, Wrote}
 use Rattle.node_build.specs.declared.Plan.{Plan}
 use Rattle.node_build.specs.declared.Measured.{Measured}
@@ -12,15 +12,15 @@ use Rattle.node_build.specs.clauses.Lengths.{Entries, Measures}
 use Rattle.node_build.specs.clauses.Layouts.{PlanOf}
 
 -- a node into which bytes were put from a place on, up to the place answered
-abbrev pub Fills : Lent → ℕ → List ℕ → ℕ → Type 0
-Fills node at x r = Wrote x at (bytes node) node.exit.now r
+abbrev pub Fills : LentMut → ℕ → List ℕ → ℕ → Type 0
+Fills node at x r = Wrote x at (bytes_lent node) node.exit.now r
 
 -- what is handed over
 abbrev pub handed : NodeHeader → Sizes → List ℕ → List ℕ → List ℕ → Handed
 handed h z info parts lengths = record { header = h; sizes = z; info = info; parts = parts; lengths = lengths }
 
 -- slots and table are written by the lengths alone: whatever the bytes are, if there are as many as the lengths say
-abbrev pub SlotsFill : Lent → ℕ → Sizes → Bool → Lent → ℕ → Type 0
+abbrev pub SlotsFill : LentMut → ℕ → Sizes → Bool → Lent → ℕ → Type 0
 SlotsFill node at z packed lengths r =
     (parts : List ℕ) → takes (bytes lengths) ≤ length parts → Fills node at (slots_from z packed 0 0 (entries_in parts (bytes lengths))) r
 
@@ -28,7 +28,7 @@ SlotsFill node at z packed lengths r =
 abbrev pub slots_end : Sizes → ℕ → List ℕ → ℕ
 slots_end z at lengths = at + length lengths / 2 * slot_width z
 
-abbrev pub TableFill : Lent → ℕ → Sizes → Plan → Lent → ℕ → Type 0
+abbrev pub TableFill : LentMut → ℕ → Sizes → Plan → Lent → ℕ → Type 0
 TableFill node at z l lengths r =
     (parts : List ℕ) → takes (bytes lengths) ≤ length parts
     → Fills node at (table z l.packed (entries_in parts (bytes lengths)) l.reserved) r
@@ -94,5 +94,5 @@ pub record Weighed (packed : Bool) (h : Handed) (m : Measured) : Type 0 where
   pub measures : Measures packed h.lengths m
 
 -- every byte after the checksum is written
-abbrev pub FillsAll : Lent → Handed → ℕ → Type 0
-FillsAll node h r = Fills node 8 (unsealed (request_of h) (length (bytes node))) r × (r ≡ length (bytes node))
+abbrev pub FillsAll : LentMut → Handed → ℕ → Type 0
+FillsAll node h r = Fills node 8 (unsealed (request_of h) (length (bytes_lent node))) r × (r ≡ length (bytes_lent node))

@@ -4,7 +4,7 @@ use Rattle.std.specs.Borrow.{Bor}
 use Rattle.fields.specs.Choice.{pick}
 use Rattle.blocks.specs.Reads.{Reads, done, Outcome, given, refused, run, ◌>>=◌}
 use Rattle.blocks.specs.Blocks.{block_of}
-use Rattle.blocks.specs.clauses.Images.{Lent, bytes, blocks_in, Pass}
+use Rattle.blocks.specs.clauses.Images.{Lent, bytes, blocks_in, Pass, LentMut, bytes_lent}
 use Rattle.blocks.specs.declared.Address.{Address}
 use Rattle.blocks.specs.declared.Container.{Container}
 use Rattle.nodes.specs.declared.Description.{Description}
@@ -118,14 +118,14 @@ abbrev pub body_of : Checkpoint → Pass (List ℕ) (Marked Report)
 body_of k f = body k.container (superblock_of f k) (mapped_in f k)
 
 -- a claims' step from a map alone, as a pass over an image and it
-abbrev pub ClaimsOn : Lent → Lent → Container → Claimed → Pass (List ℕ) (Marked OverlapLog) → Type 0
+abbrev pub ClaimsOn : Lent → LentMut → Container → Claimed → Pass (List ℕ) (Marked OverlapLog) → Type 0
 ClaimsOn image map c r pass =
-    let f = blocks_in image.entry c in Stepped f c.count r.ending (bytes map) map.exit.now r.log (pass f (bytes map))
+    let f = blocks_in image.entry c in Stepped f c.count r.ending (bytes_lent map) map.exit.now r.log (pass f (bytes_lent map))
 
 -- a step that makes a report, over an image and a map
-abbrev pub Passes : Lent → Lent → Checkpoint → Passed → Pass (List ℕ) (Marked Report) → Type 0
+abbrev pub Passes : Lent → LentMut → Checkpoint → Passed → Pass (List ℕ) (Marked Report) → Type 0
 Passes image map k r pass =
-    let f = blocks_in image.entry k.container in Stepped f k.container.count r.ending (bytes map) map.exit.now r.report (pass f (bytes map))
+    let f = blocks_in image.entry k.container in Stepped f k.container.count r.ending (bytes_lent map) map.exit.now r.report (pass f (bytes_lent map))
 
 -- the root of the object map's tree was read when the map was loaded
 abbrev pub RootRead : Bor (List ℕ) → Checkpoint → PartsPlace → Type 0
@@ -148,14 +148,14 @@ abbrev pub result_of : Answer → List ℕ → Result
 result_of a map = record { answer = a; map = map }
 
 -- answer and map of a body, of what follows the choice of the superblock at an address, and of a whole pass
-abbrev pub SettlesLate : Lent → Lent → Checkpoint → Answer → Type 0
+abbrev pub SettlesLate : Lent → LentMut → Checkpoint → Answer → Type 0
 SettlesLate image map k r =
     let f = blocks_in image.entry k.container in
     let count = k.container.count in
-    result_of r map.exit.now ≡ settle_late count (bytes map) (run f (body_of k f (cleared count (bytes map))))
+    result_of r map.exit.now ≡ settle_late count (bytes_lent map) (run f (body_of k f (cleared count (bytes_lent map))))
 
-abbrev pub Settles : Lent → Lent → Geometry → Answer → ((ℕ → List ℕ) → List ℕ → Reads (Marked Report)) → Type 0
-Settles image map g r pass = let f = block_of (bytes image) g.size in result_of r map.exit.now ≡ settle g.count (bytes map) (run f (pass f (bytes map)))
+abbrev pub Settles : Lent → LentMut → Geometry → Answer → ((ℕ → List ℕ) → List ℕ → Reads (Marked Report)) → Type 0
+Settles image map g r pass = let f = block_of (bytes image) g.size in result_of r map.exit.now ≡ settle g.count (bytes_lent map) (run f (pass f (bytes_lent map)))
 
 abbrev pub rest_of : Geometry → Address → (ℕ → List ℕ) → List ℕ → Reads (Marked Report)
 rest_of g a f map = rest g map (taken_in f g a)

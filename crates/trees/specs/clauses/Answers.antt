@@ -3,7 +3,7 @@ use Rattle.std.specs.Prelude.{Bool, List, [], ◌≡◌, ℕ, suc, pred, ◌+◌
 use Rattle.std.specs.Borrow.{Bor}
 use Rattle.blocks.specs.Reads.{Reads, Outcome, given, refused, run}
 use Rattle.blocks.specs.Blocks.{block_of}
-use Rattle.blocks.specs.clauses.Images.{Lent, bytes, blocks_in, Pass}
+use Rattle.blocks.specs.clauses.Images.{Lent, bytes, blocks_in, Pass, LentMut, bytes_lent}
 use Rattle.blocks.specs.clauses.Answers.{there_as, Always}
 use Rattle.blocks.specs.declared.Address.{Address}
 use Rattle.blocks.specs.declared.AddressAnswer.{AddressAnswer}
@@ -52,15 +52,15 @@ abbrev pub figured : List ℕ → Figures → Marked Figures
 figured map figures = record { map = map; figures = figures }
 
 -- a step over an image and a map, from the figures before it to its answer, ended as a pass does
-abbrev pub Visits : Lent → Lent → Checkpoint → Figures → Visited → Pass (Marked Figures) (Marked Figures) → Type 0
+abbrev pub Visits : Lent → LentMut → Checkpoint → Figures → Visited → Pass (Marked Figures) (Marked Figures) → Type 0
 Visits image map k figures r pass =
     let f = blocks_in image.entry k.container in
-    Stepped f k.container.count r.ending (bytes map) map.exit.now r.figures (pass f (figured (bytes map) figures))
+    Stepped f k.container.count r.ending (bytes_lent map) map.exit.now r.figures (pass f (figured (bytes_lent map) figures))
 
 -- the same of a claims' step
-abbrev pub ClaimsAs : Lent → Lent → Container → OverlapLog → Claimed → Pass (Marked OverlapLog) (Marked OverlapLog) → Type 0
+abbrev pub ClaimsAs : Lent → LentMut → Container → OverlapLog → Claimed → Pass (Marked OverlapLog) (Marked OverlapLog) → Type 0
 ClaimsAs image map c log r pass =
-    let f = blocks_in image.entry c in Stepped f c.count r.ending (bytes map) map.exit.now r.log (pass f (owned (bytes map) log))
+    let f = blocks_in image.entry c in Stepped f c.count r.ending (bytes_lent map) map.exit.now r.log (pass f (owned (bytes_lent map) log))
 
 -- what a tree's entry in a node is visited for; the entries of a leaf from a cursor on, and all; a node of a level, and a whole tree, by their addresses
 abbrev pub entry_visit : Tree → Purpose → Lent → EntryPlace → Pass (Marked Figures) (Marked Figures)
@@ -103,24 +103,24 @@ abbrev pub claimed_queue : Checkpoint → ObjectId → Pass (Marked OverlapLog) 
 claimed_queue k root f = queue k.container (mapped_in f k) (claim_queued k.container) root
 
 -- a step along the entries of a leaf
-abbrev pub VisitsNext : Lent → Lent → Tree → Cursor → Figures → VisitStep → (Cursor → Pass (Marked Figures) (Marked Figures)) → Type 0
+abbrev pub VisitsNext : Lent → LentMut → Tree → Cursor → Figures → VisitStep → (Cursor → Pass (Marked Figures) (Marked Figures)) → Type 0
 VisitsNext image map t at figures r rest =
     let f = blocks_in image.entry t.checkpoint.container in
-    Moves f t.checkpoint.container.count at r.step (figured (bytes map) figures) (figured map.exit.now r.figures) (λ to. rest to f)
+    Moves f t.checkpoint.container.count at r.step (figured (bytes_lent map) figures) (figured map.exit.now r.figures) (λ to. rest to f)
 
 -- an entry was visited where nothing is logged of it, and there alone
-abbrev pub VisitsUnlogged : Lent → Lent → Tree → Lent → EntryPlace → Bool → Type 0
+abbrev pub VisitsUnlogged : Lent → LentMut → Tree → Lent → EntryPlace → Bool → Type 0
 VisitsUnlogged image map t node e r =
     let c = t.checkpoint.container in
     let f = blocks_in image.entry c in
-    (r ≡ unlogged_for c (pool_at c t.pool f) t.purpose (entry_in (bytes node) e) (bytes map))
-    × Unlogged f c.count r (bytes map) map.exit.now (entry_visit t t.purpose node e f)
+    (r ≡ unlogged_for c (pool_at c t.pool f) t.purpose (entry_in (bytes node) e) (bytes_lent map))
+    × Unlogged f c.count r (bytes_lent map) map.exit.now (entry_visit t t.purpose node e f)
 
 -- the entries of a leaf from one cursor up to another were visited and logged nothing
-abbrev pub LeafTo : Lent → Lent → Tree → Lent → Cursor → Cursor → Type 0
+abbrev pub LeafTo : Lent → LentMut → Tree → Lent → Cursor → Cursor → Type 0
 LeafTo image map t node from to =
     let f = blocks_in image.entry t.checkpoint.container in
-    MovesUnlogged f t.checkpoint.container.count from to (bytes map) map.exit.now (leaf_of f t (bytes node))
+    MovesUnlogged f t.checkpoint.container.count from to (bytes_lent map) map.exit.now (leaf_of f t (bytes node))
 
 -- all child pointers of a node are there, or the first that is not is refused
 abbrev pub FindsPointers : Lent → Description → Presence → Type 0
@@ -162,8 +162,8 @@ pub record Walks (image : List ℕ) (c : Container) (r : Walked) (before after :
   pub goes : outcome_of r.ending (walked after r.left r.log) ≡ run (block_of image c.size) defined
   pub kept : Kept c.count before after
 
-abbrev pub WalksFrom : Lent → Lent → Container → ℕ → OverlapLog → Walked → (walk.Walked (Marked OverlapLog) → Reads (walk.Walked (Marked OverlapLog))) → Type 0
-WalksFrom image map c left log r pass = Walks (bytes image) c r (bytes map) map.exit.now (pass (walked (bytes map) left log))
+abbrev pub WalksFrom : Lent → LentMut → Container → ℕ → OverlapLog → Walked → (walk.Walked (Marked OverlapLog) → Reads (walk.Walked (Marked OverlapLog))) → Type 0
+WalksFrom image map c left log r pass = Walks (bytes image) c r (bytes_lent map) map.exit.now (pass (walked (bytes_lent map) left log))
 
 -- the way that a node's children go, by whatever kind they are claimed, and however many levels and nodes may come
 abbrev pub WayOf : Description → List ℕ → Way → Type 0

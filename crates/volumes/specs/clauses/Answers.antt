@@ -3,7 +3,7 @@ use Rattle.std.specs.Prelude.{Bool, true, false, List, [], ◌∷◌, ◌++◌, 
 use Rattle.std.proofs.Math.Option.{Option, some, none}
 use Rattle.fields.specs.Choice.{choose}
 use Rattle.blocks.specs.Reads.{Reads, done, Outcome, given, refused, run, ◌>>=◌}
-use Rattle.blocks.specs.clauses.Images.{Lent, bytes, blocks_in, Pass}
+use Rattle.blocks.specs.clauses.Images.{Lent, bytes, blocks_in, Pass, LentMut, bytes_lent}
 use Rattle.blocks.specs.clauses.Answers.{there_as, address_as, Always}
 use Rattle.blocks.specs.declared.Address.{Address}
 use Rattle.blocks.specs.declared.AddressAnswer.{AddressAnswer}
@@ -129,6 +129,6 @@ abbrev pub claims_volumes : Container → Description → Address → Lent → P
 claims_volumes c d root sb f = claim_volumes c d (f root.0) (bytes sb)
 
 -- a step along the places
-abbrev pub ClaimsNext : Lent → Lent → Container → Cursor → OverlapLog → ClaimStep → (Cursor → Pass (Marked OverlapLog) (Marked OverlapLog)) → Type 0
+abbrev pub ClaimsNext : Lent → LentMut → Container → Cursor → OverlapLog → ClaimStep → (Cursor → Pass (Marked OverlapLog) (Marked OverlapLog)) → Type 0
 ClaimsNext image map c at log r rest =
-    let f = blocks_in image.entry c in Moves f c.count at r.step (owned (bytes map) log) (owned map.exit.now r.log) (λ to. rest to f)
+    let f = blocks_in image.entry c in Moves f c.count at r.step (owned (bytes_lent map) log) (owned map.exit.now r.log) (λ to. rest to f)

@@ -1,0 +1,9 @@
+use Rattle.claims.proofs.Laws.{block_taken, block_overlaps}
+use borrow.Author.Rules.{rules}
+use Rattle.claims.proofs.claim_block.Goals as goal
+
+pub returns-then-takes : goal.returns-then-takes
+returns-then-takes c = block_taken _ _ _ _ _ c.cell.ensures _ c.owner-held.ensures _ c.takes.ensures c.if-takes.true c.requires _ c.own_block.ensures
+
+pub returns : goal.returns
+returns c count _ = block_overlaps _ _ _ _ _ c.cell.ensures _ c.owner-held.ensures _ c.takes.ensures c.if-takes.false _ _ c.add_overlap-logged.ensures count

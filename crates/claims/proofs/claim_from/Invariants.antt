@@ -1,0 +1,15 @@
+use borrow.Author.Rules.{rules}
+use native.Mathlib.Omega.{arith}
+use mathlib.Core.List.{List}
+use Prim.Native.Nat.{ℕ, ◌+◌, ◌^◌, ◌≤◌, ◌<◌}
+use Rattle.blocks.specs.Reads.{no_blocks}
+use Rattle.report.proofs.StepLaws.{Left, left_first, left_kept, left_on, left_refused, left_done, left_unlogged}
+use Rattle.claims.specs.clauses.Answers.{owned, blocks_left, end_of}
+use Rattle.claims.proofs.Laws.{claim_done, taken_left}
+use Rattle.claims.proofs.claim_from.Given as goal
+
+abbrev pub invariant-loop-at : goal.invariant-loop-at
+invariant-loop-at l = (count : ℕ) → end_of l.initial.at ≤ count → (f : ℕ → List ℕ) → Left f count l.initial.at l.at (owned l.initial.map l.initial.overlaps) (owned l.map l.overlaps) (blocks_left l.kind)
+
+abbrev pub decreases-loop-at : goal.decreases-loop-at
+decreases-loop-at l = l.at.left
