@@ -36,9 +36,9 @@ unfolding padded_length
 padded_none true = refl
 padded_none false = refl
 
-pub padded_length : (packed : Bool) (x : List ℕ) → length (padded packed x) ≡ padded_length packed (length x)
+pub padded_length_lem : (packed : Bool) (x : List ℕ) → length (padded packed x) ≡ padded_length packed (length x)
 unfolding padded
-padded_length packed x =
+padded_length_lem packed x =
     length-append x _ ∙ ap (λ (n : ℕ). length x + n) (length_zeros _) ∙ back (padded_least packed (length x))
   where
     back : {m n : ℕ} → m ≤ n → m + (n - m) ≡ n
@@ -78,9 +78,9 @@ module _ (ls : List ℕ) (i : ℕ) (h : length ls ≤ i) where
   entries_none b = ap (entries_in b) (drop_of_length-le ls h)
 
 -- a value by its length
-pub value_bytes : (packed : Bool) (v : ℕ) (b : List ℕ) → value_bytes packed (value_in v b) ≡ padded packed (take (taken v) b)
+pub value_bytes_lem : (packed : Bool) (v : ℕ) (b : List ℕ) → value_bytes packed (value_in v b) ≡ padded packed (take (taken v) b)
 unfolding taken value_in value_bytes padded
-value_bytes packed v b = go (eqb v ghost_length)
+value_bytes_lem packed v b = go (eqb v ghost_length)
   where
     go : (t : Bool) → value_bytes packed (pick t none (some (take v b))) ≡ padded packed (take (pick t 0 v) b)
     go true = rw (padded_none packed) refl
@@ -143,13 +143,13 @@ module _ (packed : Bool) (bytes ls : List ℕ) (i p : ℕ) (a : Along ls i p) (p
 
   pub values_next : values packed (rest bytes ls i p) ≡ values packed (rest bytes ls (i + 2) q) ++ padded packed (take (taken (get_or ls (i + 1) 0)) (drop (p + get_or ls i 0) bytes))
   unfolding values
-  values_next = ap (values packed) first_left ∙ ap (λ (x : List ℕ). values packed (rest bytes ls (i + 2) q) ++ x) (value_bytes packed (get_or ls (i + 1) 0) (drop (p + get_or ls i 0) bytes))
+  values_next = ap (values packed) first_left ∙ ap (λ (x : List ℕ). values packed (rest bytes ls (i + 2) q) ++ x) (value_bytes_lem packed (get_or ls (i + 1) 0) (drop (p + get_or ls i 0) bytes))
 
   pub key_length : length (padded packed (take (get_or ls i 0) (drop p bytes))) ≡ padded_length packed (get_or ls i 0)
-  key_length = padded_length packed _ ∙ ap (padded_length packed) (part_length bytes p (get_or ls i 0) (omega (arith, bound)))
+  key_length = padded_length_lem packed _ ∙ ap (padded_length packed) (part_length bytes p (get_or ls i 0) (omega (arith, bound)))
 
   pub value_length_here : length (padded packed (take (taken (get_or ls (i + 1) 0)) (drop (p + get_or ls i 0) bytes))) ≡ padded_length packed (taken (get_or ls (i + 1) 0))
-  value_length_here = padded_length packed _ ∙ ap (padded_length packed) (part_length bytes (p + get_or ls i 0) (taken (get_or ls (i + 1) 0)) (omega (arith, bound)))
+  value_length_here = padded_length_lem packed _ ∙ ap (padded_length packed) (part_length bytes (p + get_or ls i 0) (taken (get_or ls (i + 1) 0)) (omega (arith, bound)))
 
   pub slots_next : (z : Sizes) (koff voff koff' next : ℕ) → koff' ≡ koff + padded_length packed (get_or ls i 0) → next ≡ voff + padded_length packed (taken (get_or ls (i + 1) 0))
       → slots_from z packed koff voff (rest bytes ls i p) ≡ slot_bytes z koff (get_or ls i 0) (offset_for (get_or ls (i + 1) 0) next) (taken (get_or ls (i + 1) 0)) ++ slots_from z packed koff' next (rest bytes ls (i + 2) q)
@@ -167,7 +167,7 @@ module _ (packed : Bool) (bytes ls : List ℕ) (i p : ℕ) (a : Along ls i p) (p
       val = value_in (get_or ls (i + 1) 0) (drop (p + get_or ls i 0) bytes)
 
       value_at : voff + length (value_bytes packed val) ≡ next
-      value_at = ap (λ (n : ℕ). voff + n) (ap length (value_bytes packed (get_or ls (i + 1) 0) (drop (p + get_or ls i 0) bytes)) ∙ value_length_here) ∙ sym v
+      value_at = ap (λ (n : ℕ). voff + n) (ap length (value_bytes_lem packed (get_or ls (i + 1) 0) (drop (p + get_or ls i 0) bytes)) ∙ value_length_here) ∙ sym v
 
       one : (kl n o vl ko : ℕ) → kl ≡ get_or ls i 0 → n ≡ next → o ≡ offset_for (get_or ls (i + 1) 0) next → vl ≡ taken (get_or ls (i + 1) 0) → ko ≡ koff'
           → slot_bytes z koff kl o vl ++ slots_from z packed ko n (rest bytes ls (i + 2) q) ≡ slot_bytes z koff (get_or ls i 0) (offset_for (get_or ls (i + 1) 0) next) (taken (get_or ls (i + 1) 0)) ++ slots_from z packed koff' next (rest bytes ls (i + 2) q)
@@ -191,8 +191,8 @@ module _ (packed : Bool) (bytes ls : List ℕ) (i p : ℕ) (h : length ls ≤ i)
 pub record Measuring (packed : Bool) (ls : List ℕ) (room i left ks vs : ℕ) : Type 0 where
   pub enough : left ≤ room
   pub along : Along ls i (room - left)
-  pub keys_left : (parts : List ℕ) → takes ls ≤ length parts → ks + length (keys packed (rest parts ls i (room - left))) ≡ length (keys packed (entries_in parts ls))
-  pub values_left : (parts : List ℕ) → takes ls ≤ length parts → vs + length (values packed (rest parts ls i (room - left))) ≡ length (values packed (entries_in parts ls))
+  pub keys_left_lem : (parts : List ℕ) → takes ls ≤ length parts → ks + length (keys packed (rest parts ls i (room - left))) ≡ length (keys packed (entries_in parts ls))
+  pub values_left_lem : (parts : List ℕ) → takes ls ≤ length parts → vs + length (values packed (rest parts ls i (room - left))) ≡ length (values packed (entries_in parts ls))
   pub most : ks + vs + left ≤ room + 7 * i
 
 module _ {packed : Bool} {ls : List ℕ} {room : ℕ} where
@@ -201,8 +201,8 @@ module _ {packed : Bool} {ls : List ℕ} {room : ℕ} where
       record {
         enough = omega arith;
         along = along_start ls (room - room) (omega arith);
-        keys_left = λ parts t. ap (λ (p : ℕ). 0 + length (keys packed (rest parts ls 0 p))) none ∙ zero-add _;
-        values_left = λ parts t. ap (λ (p : ℕ). 0 + length (values packed (rest parts ls 0 p))) none ∙ zero-add _;
+        keys_left_lem = λ parts t. ap (λ (p : ℕ). 0 + length (keys packed (rest parts ls 0 p))) none ∙ zero-add _;
+        values_left_lem = λ parts t. ap (λ (p : ℕ). 0 + length (values packed (rest parts ls 0 p))) none ∙ zero-add _;
         most = omega arith;
       }
     where
@@ -224,20 +224,20 @@ module _ {packed : Bool} {ls : List ℕ} {room : ℕ} where
           record {
             enough = omega (arith, m.enough);
             along = along_more ls i (room - left) m.along pairs h q on;
-            keys_left =
+            keys_left_lem =
                 λ parts t.
                 omega (
                   arith,
-                  m.keys_left parts t,
+                  m.keys_left_lem parts t,
                   ap length (keys_next packed parts ls i (room - left) m.along pairs h t q on),
                   length-append (padded packed (take (get_or ls i 0) (drop (room - left) parts))) (keys packed (rest parts ls (i + 2) q)),
                   key_length packed parts ls i (room - left) m.along pairs h t q on,
                 );
-            values_left =
+            values_left_lem =
                 λ parts t.
                 omega (
                   arith,
-                  m.values_left parts t,
+                  m.values_left_lem parts t,
                   ap length (values_next packed parts ls i (room - left) m.along pairs h t q on),
                   length-append (values packed (rest parts ls (i + 2) q)) (padded packed (take (taken (get_or ls (i + 1) 0)) (drop (room - left + get_or ls i 0) parts))),
                   value_length_here packed parts ls i (room - left) m.along pairs h t q on,
@@ -249,8 +249,8 @@ module _ {packed : Bool} {ls : List ℕ} {room : ℕ} where
     measuring_done h = (
       omega (arith, m.along.passed, takes_none ls i h),
       record {
-        keys_are = λ parts t. omega (arith, m.keys_left parts t, ap length (keys_none packed parts ls i (room - left) h));
-        values_are = λ parts t. omega (arith, m.values_left parts t, ap length (values_none packed parts ls i (room - left) h));
+        keys_are = λ parts t. omega (arith, m.keys_left_lem parts t, ap length (keys_none packed parts ls i (room - left) h));
+        values_are = λ parts t. omega (arith, m.values_left_lem parts t, ap length (values_none packed parts ls i (room - left) h));
       },
     )
 
@@ -327,7 +327,7 @@ pub record Pairing (packed : Bool) (parts ls : List ℕ) (at end : ℕ) (before 
   pub same : length l ≡ length before
   pub low : last ≤ end
   pub keys_end : first + length (keys packed (rest parts ls i p)) ≡ at + length (keys_of packed parts ls)
-  pub values_at : last + length (values_of packed parts ls) ≡ end + length (values packed (rest parts ls i p))
+  pub values_at_lem : last + length (values_of packed parts ls) ≡ end + length (values packed (rest parts ls i p))
   pub left :
       written (written l first (keys packed (rest parts ls i p))) (end - length (values_of packed parts ls)) (values packed (rest parts ls i p))
       ≡ written (written before at (keys_of packed parts ls)) (end - length (values_of packed parts ls)) (values_of packed parts ls)
@@ -340,7 +340,7 @@ module _ {packed : Bool} {parts ls : List ℕ} {at end : ℕ} {before : List ℕ
         same = refl;
         low = omega arith;
         keys_end = ap (λ (n : ℕ). at + length (keys packed (rest parts ls 0 n))) e;
-        values_at = sym (ap (λ (n : ℕ). end + length (values packed (rest parts ls 0 n))) e);
+        values_at_lem = sym (ap (λ (n : ℕ). end + length (values packed (rest parts ls 0 n))) e);
         left = ap (λ (n : ℕ). written (written before at (keys packed (rest parts ls 0 n))) (end - length (values_of packed parts ls)) (values packed (rest parts ls 0 n))) e;
       }
 
@@ -380,7 +380,7 @@ module _ {packed : Bool} {parts ls : List ℕ} {at end : ℕ} {before : List ℕ
         keys_here = keys_next packed parts ls i p w.along pairs h there q on' ∙ ap (λ (x : List ℕ). padded packed x ++ keys packed (rest parts ls (i + 2) q)) (sym key-is)
 
         keys_long : length (keys packed (rest parts ls i p)) ≡ padded_length packed (length key) + length (keys packed (rest parts ls (i + 2) q))
-        keys_long = ap length keys_here ∙ length-append (padded packed key) _ ∙ ap (λ (x : ℕ). x + length (keys packed (rest parts ls (i + 2) q))) (padded_length packed key)
+        keys_long = ap length keys_here ∙ length-append (padded packed key) _ ∙ ap (λ (x : ℕ). x + length (keys packed (rest parts ls (i + 2) q))) (padded_length_lem packed key)
 
         pub key_room : first + padded_length packed (length key) ≤ length l
         key_room = omega (arith, keys_long, w.keys_end, w.same, room.apart, room.inside)
@@ -398,10 +398,10 @@ module _ {packed : Bool} {parts ls : List ℕ} {at end : ℕ} {before : List ℕ
         values_long =
             ap length values_here
             ∙ length-append (values packed (rest parts ls (i + 2) q)) (padded packed value)
-            ∙ ap (λ (x : ℕ). length (values packed (rest parts ls (i + 2) q)) + x) (padded_length packed value ∙ ap (padded_length packed) value_long)
+            ∙ ap (λ (x : ℕ). length (values packed (rest parts ls (i + 2) q)) + x) (padded_length_lem packed value ∙ ap (padded_length packed) value_long)
 
         pub value_low : padded_length packed n ≤ last
-        value_low = omega (arith, values_long, w.values_at, room.apart)
+        value_low = omega (arith, values_long, w.values_at_lem, room.apart)
 
         module _ {m : ℕ} (m-is : m ≡ padded_length packed n) where
           pub value_room : last - m + padded_length packed (length value) ≤ length l
@@ -418,13 +418,13 @@ module _ {packed : Bool} {parts ls : List ℕ} {at end : ℕ} {before : List ℕ
             values_at = end - length (values_of packed parts ls)
 
             at_is : last - m ≡ values_at + length values_left
-            at_is = omega (arith, values_long, w.values_at, room.apart)
+            at_is = omega (arith, values_long, w.values_at_lem, room.apart)
 
             key_end : r + length keys_left ≡ at + length (keys_of packed parts ls)
-            key_end = omega (arith, k.next, padded_length packed key, keys_long key-is, w.keys_end)
+            key_end = omega (arith, k.next, padded_length_lem packed key, keys_long key-is, w.keys_end)
 
-            value_end : values_at + length values_left + length (padded packed value) ≤ length l₁
-            value_end = omega (arith, at_is, v.room)
+            value_end_lem : values_at + length values_left + length (padded packed value) ≤ length l₁
+            value_end_lem = omega (arith, at_is, v.room)
 
             pub pairing_more : Pairing packed parts ls at end before (i + 2) q r (last - m) l₂
             pairing_more =
@@ -433,11 +433,11 @@ module _ {packed : Bool} {parts ls : List ℕ} {at end : ℕ} {before : List ℕ
                   same = wrote_length v ∙ wrote_length k ∙ w.same;
                   low = omega (arith, w.low);
                   keys_end = key_end;
-                  values_at = omega (arith, at_is, room.apart);
+                  values_at_lem = omega (arith, at_is, room.apart);
                   left =
                       ap (λ (t : List ℕ). written (written t r keys_left) values_at values_left) (v.is ∙ ap (λ (x : ℕ). written l₁ x (padded packed value)) at_is)
-                      ∙ ap (λ (t : List ℕ). written t values_at values_left) (sym (written_apart l₁ keys_left (padded packed value) r (values_at + length values_left) (omega (arith, key_end, room.apart)) value_end))
-                      ∙ written_before (written l₁ r keys_left) values_at values_left (padded packed value) (omega (arith, value_end, length_written l₁ keys_left r (omega (arith, key_end, room.apart, value_end))))
+                      ∙ ap (λ (t : List ℕ). written t values_at values_left) (sym (written_apart l₁ keys_left (padded packed value) r (values_at + length values_left) (omega (arith, key_end, room.apart)) value_end_lem))
+                      ∙ written_before (written l₁ r keys_left) values_at values_left (padded packed value) (omega (arith, value_end_lem, length_written l₁ keys_left r (omega (arith, key_end, room.apart, value_end_lem))))
                       ∙ ap (λ (t : List ℕ). written (written t r keys_left) values_at (values_left ++ padded packed value)) k.is
                       ∙ ap (λ (x : ℕ). written (written (written l first (padded packed key)) x keys_left) values_at (values_left ++ padded packed value)) k.next
                       ∙ ap (λ (t : List ℕ). written t values_at (values_left ++ padded packed value)) (written_twice l first (padded packed key) keys_left (omega (arith, k.room)))

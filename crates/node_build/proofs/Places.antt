@@ -17,7 +17,7 @@ use Rattle.fletcher.specs.Fletcher.{seal, fletcher, checksum, verifies}
 use Rattle.fletcher.proofs.Laws.{verifies_whole}
 use Rattle.blocks.proofs.Laws.{and_left, and_right}
 use Rattle.checkpoint.specs.Geometry.{size_allowed}
-use Rattle.checkpoint.proofs.OpeningLaws.{Allowed, size_allowed}
+use Rattle.checkpoint.proofs.OpeningLaws.{Allowed, allowed_size}
 use Rattle.nodes.specs.Node.{flags_of, is_root, is_leaf, is_fixed, is_hashed, level_of, key_count, table_at, keys_at, value_end}
 use Rattle.nodes.proofs.Laws.{value_end_root, value_end_other}
 use Rattle.node_build.specs.declared.NodeHeader.{NodeHeader}
@@ -135,7 +135,7 @@ pub record BuiltNode (q : Request) (size : ℕ) : Type 0 where
 
 module _ {q : Request} {size : ℕ} (built : BuiltNode q size) where
   pub bounds : Allowed size
-  bounds = size_allowed size built.admitted
+  bounds = allowed_size size built.admitted
 
   few : length q.entries ≤ reserved q size
   unfolding fits
@@ -152,9 +152,9 @@ module _ {q : Request} {size : ℕ} (built : BuiltNode q size) where
   pub most : room q size + 56 ≤ 65536
   most = omega (arith, whole, bounds.most)
 
-  pub table_length : length (table q.sizes (is_packed q.info) q.entries (reserved q size)) ≡ table_length q size
+  pub table_length_lem : length (table q.sizes (is_packed q.info) q.entries (reserved q size)) ≡ table_length q size
   unfolding table table_length
-  table_length =
+  table_length_lem =
       omega (
         arith,
         length-append (slots_from q.sizes (is_packed q.info) 0 0 q.entries) (replicate ((reserved q size - length q.entries) * slot_width q.sizes) 0),
@@ -164,9 +164,9 @@ module _ {q : Request} {size : ℕ} (built : BuiltNode q size) where
         slots_inside (length q.entries) (reserved q size) (slot_width q.sizes) few,
       )
 
-  pub free_length : free_length q size + (table_length q size + length (key_bytes q) + length (all_values q)) ≡ room q size
+  pub free_length_lem : free_length q size + (table_length q size + length (key_bytes q) + length (all_values q)) ≡ room q size
   unfolding free_length
-  free_length = omega (arith, fitting)
+  free_length_lem = omega (arith, fitting)
 
   abbrev pub front : List ℕ
   front = object_header q.header ++ shape q.header q.sizes (length q.entries) ++ areas (table_length q size) (length (key_bytes q)) (free_length q size)
@@ -191,18 +191,18 @@ module _ {q : Request} {size : ℕ} (built : BuiltNode q size) where
   table_stands_here = stands_left _ _ _ _ (stands_left _ _ _ _ (stands_left _ _ _ _ (stands_left _ _ _ _ (stands_last front slotted 48 front_length))))
 
   keyed_length : length (front ++ slotted) ≡ 48 + table_length q size
-  keyed_length = omega (arith, length-append front slotted, front_length, table_length)
+  keyed_length = omega (arith, length-append front slotted, front_length, table_length_lem)
 
-  pub keys_at : Stands (key_bytes q) (48 + table_length q size) (unsealed q size)
+  pub keys_at_lem : Stands (key_bytes q) (48 + table_length q size) (unsealed q size)
   unfolding unsealed
-  keys_at = stands_left _ _ _ _ (stands_left _ _ _ _ (stands_left _ _ _ _ (stands_last (front ++ slotted) (key_bytes q) (48 + table_length q size) keyed_length)))
+  keys_at_lem = stands_left _ _ _ _ (stands_left _ _ _ _ (stands_left _ _ _ _ (stands_last (front ++ slotted) (key_bytes q) (48 + table_length q size) keyed_length)))
 
   zeroed_length : length (front ++ slotted ++ key_bytes q ++ replicate (free_length q size) 0) ≡ 48 + table_length q size + length (key_bytes q) + free_length q size
   zeroed_length = omega (arith, length-append (front ++ slotted ++ key_bytes q) (replicate (free_length q size) 0), length-append (front ++ slotted) (key_bytes q), keyed_length, length_zeros (free_length q size))
 
-  pub values_at : Stands (all_values q) (48 + table_length q size + length (key_bytes q) + free_length q size) (unsealed q size)
+  pub values_at_lem : Stands (all_values q) (48 + table_length q size + length (key_bytes q) + free_length q size) (unsealed q size)
   unfolding unsealed
-  values_at = stands_left _ _ _ _ (stands_last (front ++ slotted ++ key_bytes q ++ replicate (free_length q size) 0) (all_values q) _ zeroed_length)
+  values_at_lem = stands_left _ _ _ _ (stands_last (front ++ slotted ++ key_bytes q ++ replicate (free_length q size) 0) (all_values q) _ zeroed_length)
 
   unsealed_length : length (unsealed q size) + 8 ≡ size
   unfolding unsealed
@@ -212,7 +212,7 @@ module _ {q : Request} {size : ℕ} (built : BuiltNode q size) where
         length-append (front ++ slotted ++ key_bytes q ++ replicate (free_length q size) 0 ++ all_values q) (description q.header.root q.info),
         length-append (front ++ slotted ++ key_bytes q ++ replicate (free_length q size) 0) (all_values q),
         zeroed_length,
-        free_length,
+        free_length_lem,
         whole,
         describes q.header.root q.info built.whole_info,
       )
@@ -323,7 +323,7 @@ module _ {q : Request} {size : ℕ} (built : BuiltNode q size) where
 
       place : size - 40 ≡ 8 + length before
       place =
-          let long : length before ≡ 48 + room q size = omega (arith, length-append (front ++ slotted ++ key_bytes q ++ replicate (free_length q size) 0) (all_values q), zeroed_length, free_length) in
+          let long : length before ≡ 48 + room q size = omega (arith, length-append (front ++ slotted ++ key_bytes q ++ replicate (free_length q size) 0) (all_values q), zeroed_length, free_length_lem) in
           omega (arith, whole, ended)
 
   pub described_part : q.header.root ≡ true → (j : ℕ) → j + 4 ≤ 40 → num 4 (node q size) (size - 40 + j) ≡ num 4 q.info j

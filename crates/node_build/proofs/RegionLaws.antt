@@ -207,8 +207,8 @@ pub pieces_are : (room k v d r m : ℕ) (leaf : Bool) → d ≡ pick leaf v 8 �
 pieces_are room k v d r m leaf p q s = s ∙ ap in_eights (q ∙ ap (λ (x : ℕ). room / (4 + k + x)) p)
 
 -- a whole description fills its place
-pub description_length : (root : Bool) (info : List ℕ) → root ≡ true → (b : List ℕ) → b ≡ take 40 (drop 0 info) → 40 ≤ length info → length b ≡ pick root 40 0
-description_length root info e b q h = rw e (ap length q ∙ length-take-le 40 info h)
+pub description_length_lem : (root : Bool) (info : List ℕ) → root ≡ true → (b : List ℕ) → b ≡ take 40 (drop 0 info) → 40 ≤ length info → length b ≡ pick root 40 0
+description_length_lem root info e b q h = rw e (ap length q ∙ length-take-le 40 info h)
 
 pub sealed_is : (l after : List ℕ) (s r : ℕ) → Wrote (le_bytes 8 s) 0 l after r → s ≡ checksum l → after ≡ sealed (drop 8 l)
 unfolding written sealed checksum

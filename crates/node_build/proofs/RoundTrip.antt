@@ -29,10 +29,10 @@ use Rattle.node_build.specs.Build.{Request, is_packed, value_bytes, keys, values
 use Rattle.node_build.specs.Asked.{Handed, request_of, well_formed, Made, made, build_from, build_node}
 use Rattle.node_build.specs.declared.Built.TheVariants.{Done, OutsideBytes, NoRoom}
 use Rattle.node_build.specs.Readback.{entries_from, Sized, AllSized, Readable, States, read_entries, ReadsBack, described_by, DescribesBack}
-use Rattle.node_build.proofs.Laws.{padded_length, padded_least}
+use Rattle.node_build.proofs.Laws.{padded_length_lem, padded_least}
 use Rattle.node_build.proofs.RegionLaws.{formed_info}
 use Rattle.node_build.proofs.Stands.{Stands, stands_in, stands_first, stands_last, stands_left, stands_part, stands_inside, stands_number, key_stands, value_stands, values_length, slot_stands}
-use Rattle.node_build.proofs.Places.{BuiltNode, is_fixed_size, root_is, described_part, fitting, most, free_length, table_stands_here, keys_at, values_at, in_node, node_length, leaf_is, fixed_is, hashed_is, count_is, table_begins, keys_begin, value_end_is, level_is, kind_is, verified}
+use Rattle.node_build.proofs.Places.{BuiltNode, is_fixed_size, root_is, described_part, fitting, most, free_length_lem, table_stands_here, keys_at_lem, values_at_lem, in_node, node_length, leaf_is, fixed_is, hashed_is, count_is, table_begins, keys_begin, value_end_is, level_is, kind_is, verified}
 
 all_at : (z : Sizes) (leaf : Bool) (xs ys : List Entry) (e : Entry) → AllSized z leaf (xs ++ (e ∷ ys)) → Sized z leaf e
 all_at z leaf [] ys e a = a.0
@@ -109,7 +109,7 @@ module _ {q : Request} {size : ℕ} (built : BuiltNode q size) (rd : Readable q)
     key_small = stands_inside e.key (key_bytes q) _ key_here
 
     key_in : Stands e.key (keys_at b + length (keys packed xs)) b
-    key_in = in_node built e.key (48 + table_length q size + length (keys packed xs)) _ (stands_in _ _ _ _ _ key_here (keys_at built)) (omega (arith, keys_begin built))
+    key_in = in_node built e.key (48 + table_length q size + length (keys packed xs)) _ (stands_in _ _ _ _ _ key_here (keys_at_lem built)) (omega (arith, keys_begin built))
 
     key_read : run f (part (length e.key) b (keys_at b + length (keys packed xs))) ≡ given e.key
     key_read = part_given f (length e.key) b _ (stands_inside e.key b _ key_in) ∙ ap given (stands_part e.key b _ key_in)
@@ -125,8 +125,8 @@ module _ {q : Request} {size : ℕ} (built : BuiltNode q size) (rd : Readable q)
     value_in : (x : List ℕ) → e.value ≡ some x → Stands x (value_end b - back) b
     unfolding all_values
     value_in x v = in_node built x (48 + table_length q size + length (key_bytes q) + free_length q size + length (values packed ys)) _
-        (stands_in _ _ _ _ _ here (values_at built))
-        (omega (arith, values_sum, value_end_is built, free_length built))
+        (stands_in _ _ _ _ _ here (values_at_lem built))
+        (omega (arith, values_sum, value_end_is built, free_length_lem built))
       where
         here : Stands x (length (values packed ys)) (values packed q.entries)
         here = rw split (value_stands packed xs ys e x v)
@@ -157,7 +157,7 @@ module _ {q : Request} {size : ℕ} (built : BuiltNode q size) (rd : Readable q)
       where
         go : (v : Option (List ℕ)) → length_of v ≤ length (value_bytes packed v)
         go none = omega arith
-        go (some x) = omega (arith, padded_length packed x, padded_least packed (length x))
+        go (some x) = omega (arith, padded_length_lem packed x, padded_least packed (length x))
 
     -- the two kinds of slots part here, and nowhere else
     slot_read : SlotRead f d b i (length (keys packed xs)) (length e.key) (offset_of e.value back) e.value

@@ -39,9 +39,9 @@ abbrev pub AuditsAs : Lent → LentMut → Container → Audit → Audited → P
 AuditsAs image map c audit r pass = AuditsOn image map c r (λ f m. pass f (audited m audit))
 
 -- the same of a step that leaves the map as it is, of one that reads no block, and of one that does neither
-abbrev pub AuditsStill : Lent → LentMut → Container → Audit → Audited → Pass (Marked Audit) (Marked Audit) → Type 0
+abbrev pub AuditsStill : Lent → Lent → Container → Audit → Audited → Pass (Marked Audit) (Marked Audit) → Type 0
 AuditsStill image map c audit r pass =
-    let f = blocks_in image.entry c in Stepped f c.count r.ending (bytes_lent map) (bytes_lent map) r.audit (pass f (audited (bytes_lent map) audit))
+    let f = blocks_in image.entry c in Stepped f c.count r.ending (bytes map) (bytes map) r.audit (pass f (audited (bytes map) audit))
 
 abbrev pub AuditsBlind : LentMut → Container → Audit → Audited → (Marked Audit → Reads (Marked Audit)) → Type 0
 AuditsBlind map c audit r pass = (f : ℕ → List ℕ) → Stepped f c.count r.ending (bytes_lent map) map.exit.now r.audit (pass (audited (bytes_lent map) audit))

@@ -1,0 +1,16 @@
+use borrow.Author.Rules.{rules}
+use native.Mathlib.Omega.{arith}
+use mathlib.Core.List.{List}
+use Prim.Native.Nat.{ℕ, ◌+◌, ◌≤◌}
+use Rattle.blocks.specs.Reads.{no_blocks}
+use Rattle.report.proofs.StepLaws.{Left, left_first, left_on, left_refused, left_done}
+use Rattle.audit.specs.Audit.{mark_from}
+use Rattle.audit.proofs.BitmapLaws.{bits_done}
+use Rattle.audit.proofs.bitmap.mark_rest.Given as goal
+
+abbrev pub invariant-loop-at : goal.invariant-loop-at
+invariant-loop-at l = ((f : ℕ → List ℕ) → Left f l.container.count l.initial.at l.at (record { map = l.initial.map; figures = l.before }) (record { map = l.map; figures = l.zeros }) (λ to. mark_from l.container l.bits l.start to.left to.next))
+    × (l.zeros + l.at.left ≤ l.before + l.initial.at.left)
+
+abbrev pub decreases-loop-at : goal.decreases-loop-at
+decreases-loop-at l = l.at.left

@@ -1,0 +1,15 @@
+use borrow.Author.Rules.{rules}
+use Rattle.audit.proofs.DeviceLaws.{each_done, each_first}
+use Rattle.audit.proofs.Laws.{answer_is}
+use Rattle.audit.specs.Audit.{audit_address}
+use Rattle.audit.specs.clauses.Answers.{audited, each_left}
+use Rattle.report.proofs.StepLaws.{Left, left_first, left_kept, left_on, left_refused, left_done, stepped_is}
+use Rattle.blocks.specs.Blocks.{block_of}
+use native.Mathlib.Omega.{arith}
+use Rattle.audit.proofs.device.audit_addresses.Given as goal
+
+abbrev pub invariant-loop-at : goal.invariant-loop-at
+invariant-loop-at l = Left (block_of l.image l.container.size) l.container.count l.initial.at l.at (audited l.initial.map l.initial.found) (audited l.map l.found) (λ to. each_left audit_address l.container l.place l.list to (block_of l.image l.container.size))
+
+abbrev pub decreases-loop-at : goal.decreases-loop-at
+decreases-loop-at l = l.at.left

@@ -1,0 +1,16 @@
+use native.Mathlib.Nat.{sub-zero}
+use borrow.Author.Rules.{rules}
+use Rattle.audit.proofs.WholeLaws.{bytes_few, bytes_long, bytes_more, byte_none, bits_over}
+use Rattle.audit.specs.clauses.Bits.{bits_marked}
+use lib.ListN.{length}
+use mathlib.Core.Path.{◌≡◌, refl, sym, ◌∙◌}
+use mathlib.Core.Logic.{⊎_elim}
+use Prim.Native.Nat.{◌-◌, ◌*◌, ◌≤◌}
+use native.Mathlib.Omega.{arith}
+use Rattle.audit.proofs.whole.mark_bytes.Given as goal
+
+abbrev pub invariant-loop-j : goal.invariant-loop-j
+invariant-loop-j l = (l.j ≤ l.count) × (l.zeros ≤ 8 * l.j) × (length l.map ≡ length l.initial.map) × (bits_marked l.bits l.start (8 * l.count - 8 * l.j) (8 * l.j) (record { map = l.map; figures = l.zeros }) ≡ bits_marked l.bits l.start (8 * l.count) 0 (record { map = l.initial.map; figures = 0 }))
+
+abbrev pub decreases-loop-j : goal.decreases-loop-j
+decreases-loop-j l = l.count - l.j

@@ -1,0 +1,16 @@
+use native.Mathlib.Nat.{add-zero}
+use borrow.Author.Rules.{rules}
+use Rattle.audit.proofs.WholeLaws.{byte_more, bits_over}
+use Rattle.audit.specs.clauses.Bits.{bits_marked}
+use Rattle.block_map.specs.BlockMap.{Marked}
+use lib.ListN.{length}
+use mathlib.Core.Path.{◌≡◌, refl, sym, ap, ◌∙◌}
+use Prim.Native.Nat.{ℕ, ◌+◌, ◌-◌, ◌*◌, ◌≤◌}
+use native.Mathlib.Omega.{arith}
+use Rattle.audit.proofs.whole.mark_eight.Given as goal
+
+abbrev pub invariant-loop-k : goal.invariant-loop-k
+invariant-loop-k l = (l.k ≤ 8) × (length l.map ≡ length l.initial.map) × ((bits_marked l.bits l.start (8 - l.k) (8 * l.at + l.k) (record { map = l.map; figures = 0 })).map ≡ (bits_marked l.bits l.start 8 (8 * l.at) (record { map = l.initial.map; figures = 0 })).map)
+
+abbrev pub decreases-loop-k : goal.decreases-loop-k
+decreases-loop-k l = 8 - l.k

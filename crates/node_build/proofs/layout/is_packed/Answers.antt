@@ -1,0 +1,6 @@
+use Rattle.node_build.proofs.RegionLaws.{packed_is}
+use borrow.Author.Rules.{rules}
+use Rattle.node_build.proofs.layout.is_packed.Goals as goal
+
+pub returns : goal.returns
+returns c = packed_is _ _ _ c.u32_of.ensures.is c.has_bit.ensures

@@ -1,0 +1,6 @@
+use native.Mathlib.Nat.{add-sub_cancel_left}
+use borrow.Author.Rules.{rules}
+use Rattle.node_build.proofs.regions.piece_at.Goals as goal
+
+pub returns : goal.returns
+returns c = rw (add-sub_cancel_left _ _)

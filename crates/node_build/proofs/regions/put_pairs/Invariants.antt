@@ -1,0 +1,14 @@
+use Rattle.writers.proofs.Laws.{wrote_length}
+use Rattle.node_build.proofs.Laws.{Pairing, pairing_from, pairing_more, pairing_done, key_there, value_there, key_room, value_low, value_room}
+use lib.ListN.{length}
+use native.Mathlib.Omega.{arith}
+use Prim.Native.Nat.{◌-◌}
+use mathlib.Core.Path.{refl}
+use borrow.Author.Rules.{rules}
+use Rattle.node_build.proofs.regions.put_pairs.Given as goal
+
+abbrev pub invariant-loop-i : goal.invariant-loop-i
+invariant-loop-i l = Pairing l.packed l.parts l.lengths l.at l.end l.initial.node l.i l.p l.first l.last l.node
+
+abbrev pub decreases-loop-i : goal.decreases-loop-i
+decreases-loop-i l = length l.lengths - l.i
