@@ -85,6 +85,7 @@ module _ (i : ℕ) (seen : List ℕ) where
   -- an index that wasn't seen is one less
   pub unseen_less : (n : ℕ) → i < n → is_in i seen ≡ false → suc (unseen n (seen ++ (i ∷ []))) ≡ unseen n seen
   unfolding unseen
+  unseen_less zero h s = elim h [ ]
   unseen_less (suc n) h s = go (dec_le n i) (unseen_less n)
     where
       go : Dec (n ≤ i) → (i < n → is_in i seen ≡ false → suc (unseen n (seen ++ (i ∷ []))) ≡ unseen n seen)

@@ -25,6 +25,8 @@ same false b = not b
 
 same_is : (a b : Bool) → T (same a b) → a ≡ b
 same_is true true t = refl
+same_is false true t = elim t [ ]
+same_is true false t = elim t [ ]
 same_is false false t = refl
 
 -- bit j of the power k is 1 where j is k

@@ -1,6 +1,5 @@
 // Sets of indices, a bit for each: an index is asked for in one step, however many there are.
 ghost use Rattle.std.specs.Prelude.{[], ◌*◌, ◌<◌, length};
-ghost use Rattle.blocks.specs.clauses.Images.{bytes};
 ghost use Rattle.pool.specs.clauses.Load.{indices_on};
 ghost use Rattle.free_ring.specs.clauses.Sets.{Put, SetOf};
 
@@ -12,7 +11,7 @@ use pool::PoolPlace;
 // Puts an index into a set.
 pub(crate) fn set_bit(bits: &mut [u8], index: u64)
     requires { index < length bits.old * 8 }
-    ensures { Put (bytes bits) index bits.new }
+    ensures { Put bits.old index bits.new }
 {
     let j = (index / BYTE_BITS) as usize;
     let k = (index % BYTE_BITS) as u8;

@@ -1,0 +1,7 @@
+use Rattle.free_ring.proofs.SetLaws.{bit_put, one_shifted}
+use native.Mathlib.Omega.{arith}
+use borrow.Author.Rules.{rules}
+use Rattle.free_ring.proofs.sets.set_bit.Goals as goal
+
+pub returns : goal.returns
+returns c = bit_put _ _ _ (omega arith) (one_shifted _ (omega arith))

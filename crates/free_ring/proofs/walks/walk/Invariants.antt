@@ -1,0 +1,16 @@
+use Rattle.free_ring.specs.clauses.Sets.{set_bytes}
+use Rattle.manager.specs.clauses.Place.{bytes_of}
+use mathlib.Core.Path.{refl, sym}
+use Prim.Native.Nat.{suc, ◌-◌}
+use native.Mathlib.Omega.{arith}
+use Rattle.manager.proofs.ListLaws.{values_length}
+use Rattle.manager.specs.clauses.Lists.{values}
+use Rattle.free_ring.proofs.WalkLaws.{Walking, walking, walked_outside, walked_again, room, walked_tail, walking_on}
+use borrow.Author.Rules.{rules}
+use Rattle.free_ring.proofs.walks.walk.Given as goal
+
+abbrev pub invariant-loop-i : goal.invariant-loop-i
+invariant-loop-i l = Walking (values 2 (bytes_of l.image l.container.size l.manager) l.list.blocks l.list.table) l.list.blocks l.list.head l.list.tail l.seen l.i l.k
+
+abbrev pub decreases-loop-i : goal.decreases-loop-i
+decreases-loop-i l = suc (l.list.blocks - l.k)
