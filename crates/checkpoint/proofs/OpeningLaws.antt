@@ -6,7 +6,7 @@ use Prim.Native.Nat.{ℕ, zero, suc, ◌+◌, ◌*◌, ◌-◌, ◌%◌, ◌^◌
 use native.Mathlib.Omega.{arith}
 use lib.Pow.{pow-add, pow_mono, shl_exact}
 use lib.Dec.{leb, ltb, eqb}
-use borrow.Author.Tests.{le-leb, lt-leb, lt-ltb, le-ltb, eq-eqb, ne_eqb, leb-true, leb-false, ltb-true, eqb-true, eqb-false}
+use borrow.Author.Tests.{le-leb, lt-leb, lt-ltb, le-ltb, eq-eqb, ne_eqb, leb-true, ltb-true, eqb-true}
 use Rattle.blocks.specs.Reads.{given, refused, run, no_blocks, need, ◌>>=◌}
 use Rattle.blocks.proofs.Laws.{and_left, and_right, need_held}
 use Rattle.blocks.specs.declared.Refusal.TheVariants.{ShortImage, NoMagic, BlockSize, BlockCount, MissingBlocks, ShortMap, DescriptorLength, DescriptorArea}

@@ -74,13 +74,13 @@ pub read_twice : times_read 1 (blocks_read (block_of roomy block_bytes) layout h
 unfolding computed visits roomy blocks_read times_read
 read_twice = refl
 
-pub block_touched : block_touched reused block_bytes 1 ≡ true
+pub touched_block : block_touched reused block_bytes 1 ≡ true
 unfolding reused new_map touched touched_from block_touched
-block_touched = refl
+touched_block = refl
 
 pub rule_broken : ¬ TouchesNoneRead reused layout taken (blocks_read (block_of roomy block_bytes) layout handed)
 rule_broken h =
-    let again : ◌≡◌ {A = ℕ} 2 1 = sym read_twice ∙ (h 1 (rw read_twice (omega arith)) block_touched).once in
+    let again : ◌≡◌ {A = ℕ} 2 1 = sym read_twice ∙ (h 1 (rw read_twice (omega arith)) touched_block).once in
     omega arith
 
 -- cut between its two stores, with the limit kept

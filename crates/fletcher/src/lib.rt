@@ -143,10 +143,3 @@ pub fn verify(object: &[u8]) -> bool
     }
     fields::stored_checksum(object) == checksum(object)
 }
-
-#[unsafe(no_mangle)]
-pub extern "C" fn fletcher_verify(object: &[u8]) -> bool
-    ensures { result ≡ verifies object.now }
-{
-    verify(object)
-}

@@ -5,14 +5,13 @@ use Prim.Native.Nat.{ℕ, ◌≤◌}
 use native.Mathlib.Omega.{arith}
 use lib.ListN.{length, drop, replicate, length-append}
 use lib.Seq.{length-take-le}
-use Rattle.io.specs.Counts.{IsPrefixLen}
 use Rattle.report.specs.declared.Answer.{Answer}
 use Rattle.space_check.specs.Check.{check, Result}
 use Rattle.listing_text.specs.Listing.{answer_lines, listing_of}
 use Rattle.listing_text.specs.clauses.Writing.{up_to, put_all}
 use Rattle.listing_text.proofs.Room.{most_bytes}
 use Rattle.listing_text.proofs.Buffer.{listing_there}
-use Rattle.listing.specs.Printed.{map_bytes, printed}
+use Rattle.listing.specs.Printed.{IsPrefixLen, map_bytes, printed}
 
 counts : (text rest after : List ℕ) (r : ℕ) → r ≡ length text → after ≡ text ++ rest → IsPrefixLen r after
 counts text rest after r e p =

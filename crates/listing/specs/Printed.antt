@@ -1,5 +1,5 @@
 -- What the program prints for the bytes that it read.
-use Rattle.std.specs.Prelude.{List, ◌++◌, ◌≡◌, ℕ, length, drop, replicate}
+use Rattle.std.specs.Prelude.{List, ◌++◌, ◌≡◌, ℕ, ◌≤◌, length, take, drop, replicate}
 use Rattle.blocks.specs.clauses.Images.{Lent, bytes, LentMut, bytes_lent}
 use Rattle.space_check.specs.Check.{check}
 use Rattle.listing_text.specs.Listing.{listing_of}
@@ -14,3 +14,7 @@ printed image = listing_of (check image (replicate map_bytes 0)).answer
 -- a buffer that begins with what is printed for an image, r bytes, and is else as it was
 abbrev pub Prints : LentMut → ℕ → Lent → Type 0
 Prints text r image = (r ≡ length (printed (bytes image))) × (text.exit.now ≡ printed (bytes image) ++ drop r (bytes_lent text))
+
+-- `&xs[..n]` is in bounds and has n bytes. The second part follows from the first, and spares a caller's `&xs[..n]` a proof file.
+abbrev pub IsPrefixLen : ℕ → List ℕ → Type 0
+IsPrefixLen n xs = (n ≤ length xs) × (n ≡ length (take n xs))

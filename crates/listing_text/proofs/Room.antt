@@ -114,29 +114,29 @@ unfolding flatten
 one_of true a b most h k = simp length-append (omega arith)
 one_of false a b most h k = simp length-append (omega arith)
 
-title_line : (xid : ℕ) → Fits 1 (title_line xid)
+title_fits : (xid : ℕ) → Fits 1 (title_line xid)
 unfolding format_bytes most_of
-title_line xid = by_format _ _ (lit≤ tt)
+title_fits xid = by_format _ _ (lit≤ tt)
 
-pool_line : (used unused problems : ℕ) → Fits 1 (pool_line used unused problems)
+pool_fits : (used unused problems : ℕ) → Fits 1 (pool_line used unused problems)
 unfolding format_bytes most_of
-pool_line used unused problems = by_format _ _ (lit≤ tt)
+pool_fits used unused problems = by_format _ _ (lit≤ tt)
 
-overlaps_line : (total : ℕ) → Fits 1 (overlaps_line total)
+overlaps_fit : (total : ℕ) → Fits 1 (overlaps_line total)
 unfolding format_bytes most_of
-overlaps_line total = by_format _ _ (lit≤ tt)
+overlaps_fit total = by_format _ _ (lit≤ tt)
 
-lost_line : (total : ℕ) → Fits 1 (lost_line total)
+lost_fits : (total : ℕ) → Fits 1 (lost_line total)
 unfolding format_bytes most_of
-lost_line total = by_format _ _ (lit≤ tt)
+lost_fits total = by_format _ _ (lit≤ tt)
 
-leaked_line : (total : ℕ) → Fits 1 (leaked_line total)
+leaked_fits : (total : ℕ) → Fits 1 (leaked_line total)
 unfolding format_bytes most_of
-leaked_line total = by_format _ _ (lit≤ tt)
+leaked_fits total = by_format _ _ (lit≤ tt)
 
-refused_line : (number : ℕ) → Fits 1 (refused_line number)
+refused_fits : (number : ℕ) → Fits 1 (refused_line number)
 unfolding format_bytes most_of
-refused_line number = by_format _ _ (lit≤ tt)
+refused_fits number = by_format _ _ (lit≤ tt)
 
 -- one line or another
 either : (t : Bool) {ts us : List (List ℕ)} → Fits 1 ts → Fits 1 us → Fits 1 (pick t ts us)
@@ -177,37 +177,37 @@ claimant_lines l =
       most = omega (arith, (each_lines claimant_line_of claimant_line (claimants_of l)).most, claimants_most 1 (take kinds l.claimants), length-take kinds l.claimants);
     }
 
-bitmaps_line : (free wrong device : ℕ) → Fits 1 (bitmaps_line free wrong device)
+bitmaps_fit : (free wrong device : ℕ) → Fits 1 (bitmaps_line free wrong device)
 unfolding format_bytes most_of
-bitmaps_line free wrong device = format_and _ _ _ 17 (one_of (eqb free device) _ _ 17 (lit≤ tt) (lit≤ tt)) (lit≤ tt)
+bitmaps_fit free wrong device = format_and _ _ _ 17 (one_of (eqb free device) _ _ 17 (lit≤ tt) (lit≤ tt)) (lit≤ tt)
 
 lost_kind : (lost : List Lost) (place : ℕ) → Fits 1 (lost_kind_line_of lost place)
 unfolding lost_kind_line_of format_bytes most_of flatten
 lost_kind lost place = either (eqb (lost_at lost place).count 0) (record { most = zero-le }) (by_format _ _ (lit≤ tt))
 
-result_line : (verdict : ℕ) → Fits 1 (result_line verdict)
-result_line verdict = text_and _ _ 68 (one_of (eqb verdict consistent) _ _ 68 (lit≤ tt) (lit≤ tt)) (lit≤ tt)
+result_fits : (verdict : ℕ) → Fits 1 (result_line verdict)
+result_fits verdict = text_and _ _ 68 (one_of (eqb verdict consistent) _ _ 68 (lit≤ tt) (lit≤ tt)) (lit≤ tt)
 
-report_lines : (r : Report) → Fits most_lines (report_lines r)
+report_fits : (r : Report) → Fits most_lines (report_lines r)
 unfolding report_lines places_by_name
-report_lines r =
-    title_line r.xid
-    then pool_line r.pool_used r.pool_unused r.problems.total
+report_fits r =
+    title_fits r.xid
+    then pool_fits r.pool_used r.pool_unused r.problems.total
     then named_lines problem_line_of problem_line r.problems.total r.problems.first
-    then bitmaps_line r.free r.wrong_chunks r.device_free
-    then overlaps_line (overlap_figure r.overlaps)
+    then bitmaps_fit r.free r.wrong_chunks r.device_free
+    then overlaps_fit (overlap_figure r.overlaps)
     then claimant_lines r.overlaps
     then named_lines overlap_line_of overlap_line (overlap_figure r.overlaps) r.overlaps.first
-    then lost_line (lost_total r.lost)
+    then lost_fits (lost_total r.lost)
     then each_lines (lost_kind_line_of r.lost) (lost_kind r.lost) places_by_name
-    then leaked_line r.leaked
-    then result_line r.verdict
+    then leaked_fits r.leaked
+    then result_fits r.verdict
 
-answer_lines : (e : Ending) (r : Report) → Fits most_lines (answer_lines e r)
+answer_fits : (e : Ending) (r : Report) → Fits most_lines (answer_lines e r)
 unfolding answer_lines
-answer_lines Done r = report_lines r
-answer_lines (Refused f) r = record { most = le_trans (refused_line (number_of f)).most (lit≤ tt) }
+answer_fits Done r = report_fits r
+answer_fits (Refused f) r = record { most = le_trans (refused_fits (number_of f)).most (lit≤ tt) }
 
 pub listing_fits : (a : Answer) → length (listing_of a) ≤ most_bytes
 unfolding listing_of
-listing_fits a = (answer_lines a.ending a.report).most
+listing_fits a = (answer_fits a.ending a.report).most

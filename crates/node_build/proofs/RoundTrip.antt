@@ -13,7 +13,7 @@ use Rattle.fields.specs.Fields.{num}
 use Rattle.writers.specs.Bytes.{le_bytes}
 use Rattle.writers.proofs.Laws.{length_bytes}
 use Rattle.fletcher.specs.Fletcher.{verifies}
-use Rattle.blocks.specs.Reads.{given, run, ◌>>=◌}
+use Rattle.blocks.specs.Reads.{given, run}
 use Rattle.blocks.specs.Blocks.{read_object, part}
 use Rattle.blocks.specs.declared.Address.{Address}
 use Rattle.blocks.specs.declared.Container.{Container}

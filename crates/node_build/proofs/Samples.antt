@@ -4,7 +4,7 @@ use mathlib.Core.Bool.{Bool, true, false}
 use mathlib.Core.List.{List, [], ◌∷◌}
 use Prim.Native.Nat.{ℕ, zero, suc, ◌-◌, ◌^◌}
 use lib.Dec.{T, eqb}
-use lib.ListN.{length, replicate}
+use lib.ListN.{replicate}
 use Rattle.fields.specs.Fields.{le, num}
 use Rattle.fields.proofs.Rows.{Row, row, block_from, same, every}
 use Rattle.fletcher.specs.Fletcher.{seal, fletcher}

@@ -1,6 +1,6 @@
 -- Laws of steps: what follows a step, what goes before one, and loops along a cursor.
-use Rattle.std.proofs.Common.{◌≡◌, ℕ, suc, ◌+◌, ◌-◌, ◌%◌, ◌^◌, ◌<◌, ◌≤◌, List, sym, refl, ap, ◌∙◌, arith}
-use Rattle.blocks.specs.Reads.{Reads, done, Outcome, given, refused, run, ◌>>=◌}
+use Rattle.std.proofs.Common.{◌≡◌, ℕ, ◌+◌, ◌-◌, ◌%◌, ◌^◌, ◌<◌, ◌≤◌, List, sym, refl, ap, ◌∙◌, arith}
+use Rattle.blocks.specs.Reads.{Reads, done, given, refused, run, ◌>>=◌}
 use Rattle.blocks.specs.declared.Refusal.{Refusal}
 use Rattle.blocks.proofs.Laws.{then_given, then_refused}
 use Rattle.block_map.specs.BlockMap.{Marked}

@@ -88,6 +88,6 @@ module _ (f : ℕ → List ℕ) (k : Checkpoint) (place : PoolPlace) where
   unfolding visit_for
   claim_queue a root s = queue_wider f (with_overlaps a) _ _ _ _ (λ e t. mapped_bind f (with_overlaps a) _) root s
 
-  pub claim_mappings : (a : Audit) (d : Description) (b : List ℕ) (s : Marked OverlapLog) → run f (scan (visit_on k place Mappings f) d (child_for k.container (mapped_in f k) Mappings) b (with_overlaps a s)) ≡ raised (with_overlaps a) (run f (claim_mappings k.container d b s))
+  pub mappings_claimed : (a : Audit) (d : Description) (b : List ℕ) (s : Marked OverlapLog) → run f (scan (visit_on k place Mappings f) d (child_for k.container (mapped_in f k) Mappings) b (with_overlaps a s)) ≡ raised (with_overlaps a) (run f (claim_mappings k.container d b s))
   unfolding claim_mappings visit_for child_for
-  claim_mappings a d b s = scan_wider f (with_overlaps a) _ _ (λ e t. mapped_bind f (with_overlaps a) _) d _ b s
+  mappings_claimed a d b s = scan_wider f (with_overlaps a) _ _ (λ e t. mapped_bind f (with_overlaps a) _) d _ b s

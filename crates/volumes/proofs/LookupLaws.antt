@@ -201,9 +201,9 @@ module _ (f : ℕ → List ℕ) (c : Container) (d : Description) (id : ObjectId
 
 -- from the root's level down
 module _ (f : ℕ → List ℕ) (c : Container) (d : Description) (id : ObjectId) where
-  pub lookup_from : (b : List ℕ) (l : ℕ) → l ≡ level_of b → run f (lookup_from c d id (l + 1) b) ≡ run f (lookup_le c d id b)
+  pub lookup_first : (b : List ℕ) (l : ℕ) → l ≡ level_of b → run f (lookup_from c d id (l + 1) b) ≡ run f (lookup_le c d id b)
   unfolding lookup_le
-  lookup_from b l is = rw (add-one, is) refl
+  lookup_first b l is = rw (add-one, is) refl
 
   -- what is left at a node is the whole
   module _ (left : ℕ) (b : List ℕ) (whole : Outcome (Option Entry)) (inv : run f (lookup_from c d id left b) ≡ whole) where

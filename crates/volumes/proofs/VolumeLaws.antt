@@ -111,9 +111,9 @@ module _ (f : ℕ → List ℕ) (c : Container) (d : Description) (b : List ℕ)
 
 -- what makes a volume's superblock
 module _ (b : List ℕ) (k x : ℕ) (kind : k ≡ kind_of b) where
-  pub volume_kind : k ≡ volume_kind → x ≡ num 4 b 32 → eqb x volume_magic ≡ is_volume b
+  pub volume_of_kind : k ≡ volume_kind → x ≡ num 4 b 32 → eqb x volume_magic ≡ is_volume b
   unfolding is_volume
-  volume_kind e q = rw (← kind, ← q, eq-eqb k volume_kind e) refl
+  volume_of_kind e q = rw (← kind, ← q, eq-eqb k volume_kind e) refl
 
   pub volume_other : (k ≡ volume_kind → ⊥) → eqb k volume_kind ≡ is_volume b
   unfolding is_volume
@@ -125,9 +125,9 @@ module _ (f : ℕ → List ℕ) (c : Container) (a : Address) where
   read_refused r e = then_refused f _ _ r e
 
   module _ (e : run f (read_object c a) ≡ given (f a.0)) (n : List ℕ) (is : n ≡ f a.0) where
-    pub read_volume : is_volume n ≡ true → run f (read_volume c a) ≡ given (f a.0)
+    pub volume_read : is_volume n ≡ true → run f (read_volume c a) ≡ given (f a.0)
     unfolding run read_volume
-    read_volume q = then_given f _ _ _ e ∙ need_true f _ _ _ (rw is at q)
+    volume_read q = then_given f _ _ _ e ∙ need_true f _ _ _ (rw is at q)
 
     pub read_other : is_volume n ≡ false → run f (read_volume c a) ≡ refused NotVolume
     unfolding read_volume

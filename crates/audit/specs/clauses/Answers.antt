@@ -1,5 +1,5 @@
 -- Answers of the audit's steps, against passes of the definition.
-use Rattle.std.specs.Prelude.{List, ◌≡◌, ℕ, ◌+◌, ◌*◌}
+use Rattle.std.specs.Prelude.{List, ℕ, ◌+◌, ◌*◌}
 use Rattle.blocks.specs.Reads.{Reads}
 use Rattle.blocks.specs.clauses.Images.{Lent, bytes, blocks_in, Pass, LentMut, bytes_lent}
 use Rattle.blocks.specs.declared.Address.{Address}

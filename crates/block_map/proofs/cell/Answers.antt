@@ -1,6 +1,5 @@
 use mathlib.Core.Path.{sym}
 use lib.ListN.{get_or-eq_default}
-use borrow.Author.Rules.{rules}
 use Rattle.block_map.proofs.cell.Goals as goal
 
 pub returns-else-block-map : goal.returns-else-block-map

@@ -1,9 +1,7 @@
-use mathlib.Core.Path.{◌≡◌, refl}
+use mathlib.Core.Path.{◌≡◌}
 use Prim.Native.Nat.{◌≤◌, ◌-◌}
 use lib.ListN.{length}
-use borrow.Author.Rules.{rules}
 use Rattle.block_map.specs.BlockMap.{cleared}
-use Rattle.block_map.proofs.Rows.{row_cleared}
 use Rattle.block_map.proofs.clear.Given as goal
 
 abbrev pub invariant-loop-at : goal.invariant-loop-at

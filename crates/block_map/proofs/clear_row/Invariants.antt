@@ -1,10 +1,7 @@
-use mathlib.Core.Path.{◌≡◌, refl, sym, ◌∙◌}
+use mathlib.Core.Path.{◌≡◌}
 use Prim.Native.Nat.{◌≤◌, ◌-◌}
-use lib.ListN.{length, length-set}
-use borrow.Author.Rules.{rules}
+use lib.ListN.{length}
 use Rattle.block_map.specs.BlockMap.{cleared}
-use Rattle.block_map.proofs.Laws.{cleared_set}
-use Rattle.block_map.proofs.Rows.{zero_row, cleared_whole}
 use Rattle.block_map.proofs.clear_row.Given as goal
 
 abbrev pub invariant-loop-i : goal.invariant-loop-i

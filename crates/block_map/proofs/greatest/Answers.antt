@@ -1,8 +1,6 @@
-use mathlib.Core.Path.{◌≡◌, refl, sym, ◌∙◌}
-use Prim.Native.Nat.{◌≤◌, ◌-◌}
-use lib.ListN.{length, drop}
+use mathlib.Core.Path.{refl, sym, ◌∙◌}
 use borrow.Author.Rules.{rules}
-use Rattle.block_map.specs.clauses.Rows.{greatest_in, itself}
+use Rattle.block_map.specs.clauses.Rows.{itself}
 use Rattle.block_map.proofs.Rows.{greatest_more, greatest_done}
 use Rattle.block_map.proofs.greatest.Goals as goal
 

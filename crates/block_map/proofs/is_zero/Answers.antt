@@ -1,5 +1,4 @@
 use Rattle.block_map.proofs.Rows.{zero_test}
-use borrow.Author.Rules.{rules}
 use Rattle.block_map.proofs.is_zero.Goals as goal
 
 pub returns : goal.returns

@@ -1,4 +1,3 @@
-use borrow.Author.Rules.{rules}
 use Rattle.block_map.specs.BlockMap.{marked}
 use Rattle.block_map.proofs.Laws.{updated}
 use Rattle.block_map.proofs.mark_block.Goals as goal

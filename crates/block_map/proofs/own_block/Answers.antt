@@ -1,5 +1,4 @@
 use Prim.Native.Nat.{◌%◌}
-use borrow.Author.Rules.{rules}
 use Rattle.block_map.specs.BlockMap.{owned_by}
 use Rattle.block_map.proofs.Laws.{updated}
 use Rattle.block_map.proofs.own_block.Goals as goal

@@ -1,6 +1,5 @@
 use mathlib.Core.Path.{sym}
 use lib.Seq.{set_out}
-use borrow.Author.Rules.{rules}
 use Rattle.block_map.proofs.put.Goals as goal
 
 pub returns-else-block-map : goal.returns-else-block-map

@@ -1,4 +1,3 @@
-use borrow.Author.Rules.{rules}
 use Rattle.block_map.specs.BlockMap.{used}
 use Rattle.block_map.proofs.Laws.{updated}
 use Rattle.block_map.proofs.use_block.Goals as goal

@@ -1,7 +1,6 @@
 use Rattle.blocks.proofs.Laws.{sum_fits, sum_passes}
 use native.Mathlib.Omega.{arith}
-use mathlib.Core.Path.{sym, ap}
-use borrow.Author.Rules.{rules}
+use mathlib.Core.Path.{sym}
 use Rattle.blocks.proofs.add.Goals as goal
 
 pub returns-then-number-more : goal.returns-then-number-more

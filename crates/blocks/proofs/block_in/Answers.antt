@@ -1,7 +1,6 @@
 use native.Mathlib.Omega.{arith}
 use Rattle.blocks.specs.Blocks.{block_of}
 use Rattle.blocks.proofs.Laws.{half_product}
-use borrow.Author.Rules.{rules}
 use Rattle.blocks.proofs.block_in.Goals as goal
 
 pub overflow_mul-start : goal.overflow_mul-start

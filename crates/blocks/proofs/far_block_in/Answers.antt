@@ -5,7 +5,6 @@ use Rattle.blocks.specs.Blocks.{block_of}
 use Rattle.fields.proofs.Laws.{part_past}
 use native.Mathlib.Omega.{arith}
 use mathlib.Core.Path.{◌∙◌}
-use borrow.Author.Rules.{rules}
 use Rattle.blocks.proofs.far_block_in.Goals as goal
 
 pub returns-then-size-eq0 : goal.returns-then-size-eq0

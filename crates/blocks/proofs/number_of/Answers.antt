@@ -1,6 +1,5 @@
 use mathlib.Core.Path.{sym, ap}
 use Rattle.blocks.specs.Refusals.{number_of}
-use borrow.Author.Rules.{rules}
 use Rattle.blocks.proofs.number_of.Goals as goal
 
 pub returns-in-ShortImage : goal.returns-in-ShortImage

@@ -2,7 +2,6 @@ use Rattle.blocks.proofs.Laws.{object_zero, object_past, object_there, object_ba
 use Rattle.fletcher.specs.Fletcher.{verifies}
 use native.Mathlib.Omega.{arith}
 use mathlib.Core.Path.{sym, ap, ◌∙◌}
-use borrow.Author.Rules.{rules}
 use Rattle.blocks.proofs.object_in.Goals as goal
 
 pub returns-then-n-eq0 : goal.returns-then-n-eq0

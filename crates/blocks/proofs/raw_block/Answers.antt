@@ -1,5 +1,5 @@
 use Rattle.blocks.proofs.Laws.{raw_there, raw_past}
-use mathlib.Core.Path.{sym, ap}
+use mathlib.Core.Path.{sym}
 use Rattle.blocks.proofs.raw_block.Goals as goal
 
 pub returns-then-address-container : goal.returns-then-address-container

@@ -6,7 +6,6 @@ use Rattle.blocks.specs.clauses.Answers.{number_as}
 use Rattle.blocks.proofs.Laws.{then_refused}
 use native.Mathlib.Omega.{arith}
 use mathlib.Core.Path.{sym, ap, ◌∙◌}
-use borrow.Author.Rules.{rules}
 use Rattle.claims.proofs.claim.Goals as goal
 
 pub returns-in-Refused : goal.returns-in-Refused

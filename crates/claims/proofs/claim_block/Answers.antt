@@ -1,5 +1,4 @@
 use Rattle.claims.proofs.Laws.{block_taken, block_overlaps}
-use borrow.Author.Rules.{rules}
 use Rattle.claims.proofs.claim_block.Goals as goal
 
 pub returns-then-takes : goal.returns-then-takes

@@ -1,11 +1,7 @@
-use borrow.Author.Rules.{rules}
-use native.Mathlib.Omega.{arith}
 use mathlib.Core.List.{List}
-use Prim.Native.Nat.{ℕ, ◌+◌, ◌^◌, ◌≤◌, ◌<◌}
-use Rattle.blocks.specs.Reads.{no_blocks}
-use Rattle.report.proofs.StepLaws.{Left, left_first, left_kept, left_on, left_refused, left_done, left_unlogged}
+use Prim.Native.Nat.{ℕ, ◌≤◌}
+use Rattle.report.proofs.StepLaws.{Left}
 use Rattle.claims.specs.clauses.Answers.{owned, blocks_left, end_of}
-use Rattle.claims.proofs.Laws.{claim_done, taken_left}
 use Rattle.claims.proofs.claim_from.Given as goal
 
 abbrev pub invariant-loop-at : goal.invariant-loop-at

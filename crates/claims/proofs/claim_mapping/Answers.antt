@@ -2,7 +2,6 @@ use Rattle.claims.proofs.Laws.{mapping_ghost, mapping_refused, mapping_deleted, 
 use Rattle.report.proofs.StepLaws.{stepped_run, stays_done, stays_refused}
 use Rattle.blocks.specs.clauses.Answers.{number_as}
 use mathlib.Core.Path.{sym, ap, ◌∙◌}
-use borrow.Author.Rules.{rules}
 use Rattle.claims.proofs.claim_mapping.Goals as goal
 
 pub returns-then-is_deleted : goal.returns-then-is_deleted

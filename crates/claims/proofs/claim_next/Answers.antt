@@ -3,7 +3,6 @@ use Rattle.report.proofs.StepLaws.{moves_past}
 use Rattle.blocks.specs.Reads.{run}
 use mathlib.Core.Path.{refl, ap}
 use native.Mathlib.Omega.{arith}
-use borrow.Author.Rules.{rules}
 use Rattle.claims.proofs.claim_next.Goals as goal
 
 pub returns : goal.returns

@@ -1,5 +1,4 @@
 use Rattle.claims.specs.Claims.{claim_node}
-use borrow.Author.Rules.{rules}
 use Rattle.claims.proofs.claim_node.Goals as goal
 
 pub returns : goal.returns

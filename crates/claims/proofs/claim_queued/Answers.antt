@@ -3,7 +3,6 @@ use Rattle.claims.specs.Claims.{claim_queued}
 use Rattle.queue.specs.clauses.Answers.{run_as}
 use Rattle.blocks.proofs.Laws.{then_refused}
 use mathlib.Core.Path.{refl, sym, ap, ◌∙◌}
-use borrow.Author.Rules.{rules}
 use Rattle.claims.proofs.claim_queued.Goals as goal
 
 pub returns-in-Refused : goal.returns-in-Refused

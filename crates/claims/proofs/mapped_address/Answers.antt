@@ -2,7 +2,6 @@ use Rattle.claims.specs.Claims.{mapped_address}
 use Rattle.blocks.specs.clauses.Answers.{number_as}
 use Rattle.blocks.proofs.Laws.{then_given, then_refused}
 use mathlib.Core.Path.{sym, ap, ◌∙◌}
-use borrow.Author.Rules.{rules}
 use Rattle.claims.proofs.mapped_address.Goals as goal
 
 pub returns-in-Refused : goal.returns-in-Refused

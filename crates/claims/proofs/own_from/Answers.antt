@@ -1,9 +1,8 @@
-use borrow.Author.Rules.{rules}
 use mathlib.Core.Path.{refl}
 use Rattle.blocks.specs.Reads.{no_blocks}
 use native.Mathlib.Omega.{arith}
-use Prim.Native.Nat.{◌+◌, ◌-◌, ◌≤◌}
-use Rattle.claims.proofs.Laws.{Taken, taken_first, taken_next, block_taken}
+use Prim.Native.Nat.{◌+◌}
+use Rattle.claims.proofs.Laws.{taken_first, taken_next, block_taken}
 use Rattle.claims.proofs.own_from.Goals as goal
 
 pub loop-next-init : goal.loop-next-init

@@ -1,9 +1,5 @@
-use borrow.Author.Rules.{rules}
-use mathlib.Core.Path.{refl}
-use Rattle.blocks.specs.Reads.{no_blocks}
-use native.Mathlib.Omega.{arith}
-use Prim.Native.Nat.{◌+◌, ◌-◌, ◌≤◌}
-use Rattle.claims.proofs.Laws.{Taken, taken_first, taken_next, block_taken}
+use Prim.Native.Nat.{◌-◌, ◌≤◌}
+use Rattle.claims.proofs.Laws.{Taken}
 use Rattle.claims.proofs.own_from.Given as goal
 
 abbrev pub invariant-loop-next : goal.invariant-loop-next

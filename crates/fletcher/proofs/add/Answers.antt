@@ -2,10 +2,8 @@ use native.Mathlib.Omega.{arith}
 use borrow.Author.Rules.{rules}
 use mathlib.Core.Path.{◌≡◌, refl}
 use mathlib.Core.List.{[]}
-use Prim.Native.Nat.{◌+◌, ◌-◌, ◌%◌, ◌≤◌}
-use lib.ListN.{length, drop, length-take, length-drop}
-use Rattle.fletcher.specs.declared.Sums.{Sums}
-use Rattle.fletcher.specs.clauses.Pieces.{Added, Reduced}
+use Prim.Native.Nat.{◌+◌, ◌-◌, ◌%◌}
+use lib.ListN.{length-take, length-drop}
 use Rattle.fletcher.proofs.Laws.{added_then, added_part, part_end}
 use Rattle.fletcher.proofs.add.Goals as goal
 

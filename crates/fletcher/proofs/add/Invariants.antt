@@ -1,12 +1,7 @@
-use native.Mathlib.Omega.{arith}
-use borrow.Author.Rules.{rules}
-use mathlib.Core.Path.{◌≡◌, refl}
-use mathlib.Core.List.{[]}
-use Prim.Native.Nat.{◌+◌, ◌-◌, ◌%◌, ◌≤◌}
-use lib.ListN.{length, drop, length-take, length-drop}
+use Prim.Native.Nat.{◌-◌, ◌≤◌}
+use lib.ListN.{length, drop}
 use Rattle.fletcher.specs.declared.Sums.{Sums}
 use Rattle.fletcher.specs.clauses.Pieces.{Added, Reduced}
-use Rattle.fletcher.proofs.Laws.{added_then, added_part, part_end}
 use Rattle.fletcher.proofs.add.Given as goal
 
 abbrev pub invariant-loop-at : goal.invariant-loop-at

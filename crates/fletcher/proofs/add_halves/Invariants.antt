@@ -1,9 +1,7 @@
-use native.Mathlib.Omega.{arith}
-use borrow.Author.Rules.{rules}
 use mathlib.Core.Path.{◌≡◌}
-use Prim.Native.Nat.{◌-◌, ◌*◌, ◌/◌, ◌%◌, ◌≤◌, ◌<◌, ◌^◌}
+use Prim.Native.Nat.{◌-◌, ◌%◌, ◌≤◌}
 use lib.ListN.{length}
-use Rattle.fletcher.proofs.Laws.{Half, none, half_start, half_two, halves_done, added_run, times_small}
+use Rattle.fletcher.proofs.Laws.{Half, none}
 use Rattle.fletcher.proofs.add_halves.Given as goal
 
 abbrev pub invariant-loop-at : goal.invariant-loop-at

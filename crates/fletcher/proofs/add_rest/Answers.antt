@@ -1,8 +1,6 @@
 use borrow.Author.Rules.{rules}
 use mathlib.Core.Path.{refl}
-use Prim.Native.Nat.{◌-◌, ◌≤◌}
-use lib.ListN.{length}
-use Rattle.fletcher.proofs.Laws.{Half, half_start, half_more, half_done, added_run}
+use Rattle.fletcher.proofs.Laws.{half_start, half_more, half_done, added_run}
 use Rattle.fletcher.proofs.add_rest.Goals as goal
 
 pub loop-at-init : goal.loop-at-init

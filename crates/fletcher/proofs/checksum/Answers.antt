@@ -5,7 +5,6 @@ use lib.ListN.{length, drop_of_length-le}
 use Prim.Native.Nat.{ℕ, ◌≤◌}
 use Rattle.fletcher.specs.Fletcher.{checksum, fletcher}
 use Rattle.fletcher.proofs.Laws.{added_seal, part_end}
-use borrow.Author.Rules.{rules}
 use Rattle.fletcher.proofs.checksum.Goals as goal
 
 pub returns-then-object-lt8 : goal.returns-then-object-lt8

@@ -1,7 +1,6 @@
 use mathlib.Core.List.{[]}
 use Rattle.fletcher.specs.clauses.Pieces.{words}
 use Rattle.fletcher.specs.Fletcher.{seal, fletcher}
-use borrow.Author.Rules.{rules}
 use Rattle.fletcher.proofs.seal.Goals as goal
 
 pub returns : goal.returns

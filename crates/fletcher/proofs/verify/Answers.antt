@@ -2,7 +2,6 @@ use mathlib.Core.Path.{ap₂, ◌∙◌}
 use native.Mathlib.Omega.{arith}
 use lib.Dec.{eqb}
 use Rattle.fletcher.proofs.Laws.{verifies_short, verifies_uneven, verifies_whole}
-use borrow.Author.Rules.{rules}
 use Rattle.fletcher.proofs.verify.Goals as goal
 
 pub returns-then-n-lt32 : goal.returns-then-n-lt32

@@ -1,5 +1,5 @@
 use Rattle.pool.proofs.Laws.{bit_read_of}
-use Rattle.std.proofs.Common.{refl, rules}
+use Rattle.std.proofs.Common.{refl}
 use Rattle.pool.proofs.bit_near.Goals as goal
 
 pub returns : goal.returns

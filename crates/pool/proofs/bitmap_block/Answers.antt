@@ -1,5 +1,5 @@
 use Rattle.pool.proofs.Laws.{block_past, block_there}
-use Rattle.std.proofs.Common.{sym, ◌∙◌, rules}
+use Rattle.std.proofs.Common.{sym, ◌∙◌}
 use Rattle.pool.proofs.bitmap_block.Goals as goal
 
 pub returns-then-pool-index : goal.returns-then-pool-index

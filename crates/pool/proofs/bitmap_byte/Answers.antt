@@ -1,6 +1,6 @@
 use Rattle.pool.proofs.Laws.{byte_none, byte_in}
 use lib.ListN.{get_or-eq_default}
-use Rattle.std.proofs.Common.{sym, ◌∙◌, arith, rules}
+use Rattle.std.proofs.Common.{sym, ◌∙◌, arith}
 use Rattle.pool.proofs.bitmap_byte.Goals as goal
 
 pub returns-then-size-eq0 : goal.returns-then-size-eq0

@@ -1,5 +1,5 @@
 use Rattle.pool.proofs.LoadLaws.{goes_past_sum, goes_past, goes_there}
-use Rattle.std.proofs.Common.{arith, rules}
+use Rattle.std.proofs.Common.{arith}
 use Rattle.pool.proofs.bitmap_there.Goals as goal
 
 pub returns-then-pool-k : goal.returns-then-pool-k

@@ -1,6 +1,5 @@
-use Rattle.pool.proofs.LoadLaws.{Left, left_first, left_more, left_refused, left_done}
-use Rattle.blocks.specs.Blocks.{block_of}
-use Rattle.std.proofs.Common.{◌-◌, ◌≤◌, rules}
+use Rattle.pool.proofs.LoadLaws.{left_first, left_more, left_refused, left_done}
+use Rattle.std.proofs.Common.{rules}
 use Rattle.pool.proofs.bitmaps_there.Goals as goal
 
 pub loop-i-init : goal.loop-i-init

@@ -1,6 +1,6 @@
-use Rattle.pool.proofs.LoadLaws.{Left, left_first, left_more, left_refused, left_done}
+use Rattle.pool.proofs.LoadLaws.{Left}
 use Rattle.blocks.specs.Blocks.{block_of}
-use Rattle.std.proofs.Common.{◌-◌, ◌≤◌, rules}
+use Rattle.std.proofs.Common.{◌-◌, ◌≤◌}
 use Rattle.pool.proofs.bitmaps_there.Given as goal
 
 abbrev pub invariant-loop-i : goal.invariant-loop-i

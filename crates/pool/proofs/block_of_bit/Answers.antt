@@ -1,4 +1,4 @@
-use Rattle.std.proofs.Common.{refl, rules}
+use Rattle.std.proofs.Common.{refl}
 use native.Mathlib.Nat.{div-zero}
 use Rattle.pool.proofs.block_of_bit.Goals as goal
 

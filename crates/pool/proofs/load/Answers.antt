@@ -1,5 +1,4 @@
 use Rattle.pool.proofs.LoadLaws.{load_refused, load_there}
-use Rattle.std.proofs.Common.{rules}
 use Rattle.pool.proofs.load.Goals as goal
 
 pub returns-in-Refused : goal.returns-in-Refused

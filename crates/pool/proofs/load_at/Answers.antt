@@ -1,5 +1,4 @@
 use Rattle.pool.proofs.LoadLaws.{from_refused, from_given, from_short}
-use Rattle.std.proofs.Common.{rules}
 use Rattle.pool.proofs.load_at.Goals as goal
 
 pub returns-in-Refused : goal.returns-in-Refused

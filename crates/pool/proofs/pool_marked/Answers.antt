@@ -1,5 +1,4 @@
 use Rattle.pool.proofs.Laws.{none_part}
-use Rattle.std.proofs.Common.{rules}
 use Rattle.pool.proofs.pool_marked.Goals as goal
 
 pub marked_near-requires : goal.marked_near-requires

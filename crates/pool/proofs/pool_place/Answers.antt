@@ -1,5 +1,4 @@
 use Rattle.pool.proofs.LoadLaws.{place_read}
-use Rattle.std.proofs.Common.{rules}
 use Rattle.pool.proofs.pool_place.Goals as goal
 
 pub returns : goal.returns

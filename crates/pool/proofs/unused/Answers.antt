@@ -1,7 +1,5 @@
-use Rattle.std.proofs.Common.{◌-◌, ◌≤◌, refl, ◌∙◌, add-zero, rules}
-use Rattle.pool.proofs.Laws.{Counted, counted_few, counted_span, counted_done}
-use Rattle.pool.specs.clauses.Place.{pool_in}
-use Rattle.blocks.specs.Blocks.{block_of}
+use Rattle.std.proofs.Common.{refl, ◌∙◌, add-zero, rules}
+use Rattle.pool.proofs.Laws.{counted_few, counted_span, counted_done}
 use native.Mathlib.Nat.{sub-zero}
 use Rattle.pool.proofs.unused.Goals as goal
 

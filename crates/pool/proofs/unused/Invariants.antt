@@ -1,8 +1,7 @@
-use Rattle.std.proofs.Common.{◌-◌, ◌≤◌, refl, ◌∙◌, add-zero, rules}
-use Rattle.pool.proofs.Laws.{Counted, counted_few, counted_span, counted_done}
+use Rattle.std.proofs.Common.{◌-◌, ◌≤◌}
+use Rattle.pool.proofs.Laws.{Counted}
 use Rattle.pool.specs.clauses.Place.{pool_in}
 use Rattle.blocks.specs.Blocks.{block_of}
-use native.Mathlib.Nat.{sub-zero}
 use Rattle.pool.proofs.unused.Given as goal
 
 abbrev pub invariant-loop-i : goal.invariant-loop-i

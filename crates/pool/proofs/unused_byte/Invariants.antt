@@ -1,5 +1,5 @@
-use Rattle.std.proofs.Common.{◌-◌, ◌≤◌, sym, refl, ◌∙◌, arith, rules}
-use Rattle.pool.proofs.Laws.{Counted, counted_more, counted_done, count_none, bit_read_of}
+use Rattle.std.proofs.Common.{◌-◌, ◌≤◌}
+use Rattle.pool.proofs.Laws.{Counted}
 use Rattle.pool.specs.clauses.Place.{pool_in}
 use Rattle.blocks.specs.Blocks.{block_of}
 use Rattle.pool.proofs.unused_byte.Given as goal

@@ -1,7 +1,5 @@
-use Rattle.std.proofs.Common.{◌-◌, ◌≤◌, refl, arith, rules}
-use Rattle.pool.proofs.Laws.{Counted, counted_few, counted_span, counted_done, block_fits, block_part}
-use Rattle.pool.specs.clauses.Place.{pool_in}
-use Rattle.blocks.specs.Blocks.{block_of}
+use Rattle.std.proofs.Common.{refl, arith, rules}
+use Rattle.pool.proofs.Laws.{counted_few, counted_span, counted_done, block_fits, block_part}
 use Rattle.pool.proofs.unused_piece.Goals as goal
 
 pub overflow_mul-near : goal.overflow_mul-near

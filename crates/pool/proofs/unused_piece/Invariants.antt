@@ -1,5 +1,5 @@
-use Rattle.std.proofs.Common.{◌-◌, ◌≤◌, refl, arith, rules}
-use Rattle.pool.proofs.Laws.{Counted, counted_few, counted_span, counted_done, block_fits, block_part}
+use Rattle.std.proofs.Common.{◌-◌, ◌≤◌}
+use Rattle.pool.proofs.Laws.{Counted}
 use Rattle.pool.specs.clauses.Place.{pool_in}
 use Rattle.blocks.specs.Blocks.{block_of}
 use Rattle.pool.proofs.unused_piece.Given as goal

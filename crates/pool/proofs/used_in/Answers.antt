@@ -1,6 +1,6 @@
 use Rattle.fields.proofs.Laws.{past_limit}
 use Rattle.block_map.specs.BlockMap.{used_at}
-use Rattle.std.proofs.Common.{◌+◌, arith, rules}
+use Rattle.std.proofs.Common.{◌+◌, arith}
 use Rattle.pool.proofs.used_in.Goals as goal
 
 pub returns-then-base-index : goal.returns-then-base-index

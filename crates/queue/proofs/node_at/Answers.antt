@@ -1,6 +1,5 @@
 use Rattle.blocks.specs.clauses.Answers.{there_as}
 use mathlib.Core.Path.{sym, ap, ◌∙◌}
-use borrow.Author.Rules.{rules}
 use Rattle.queue.proofs.node_at.Goals as goal
 
 pub returns-in-Refused : goal.returns-in-Refused

@@ -1,6 +1,5 @@
 use Rattle.queue.proofs.Laws.{unmapped, mapped}
 use mathlib.Core.Path.{sym, ◌∙◌}
-use borrow.Author.Rules.{rules}
 use Rattle.queue.proofs.node_by.Goals as goal
 
 pub returns-in-Nowhere : goal.returns-in-Nowhere

@@ -1,6 +1,5 @@
 use Rattle.queue.proofs.Laws.{count_ghost, count_field}
 use mathlib.Core.Path.{sym, ◌∙◌}
-use borrow.Author.Rules.{rules}
 use Rattle.queue.proofs.run_count.Goals as goal
 
 pub returns-in-Ghost : goal.returns-in-Ghost

@@ -1,7 +1,6 @@
 use Rattle.queue.proofs.Laws.{run_no_start, run_no_count, run_given}
 use Rattle.blocks.specs.clauses.Answers.{number_as}
 use mathlib.Core.Path.{sym, ap, ◌∙◌}
-use borrow.Author.Rules.{rules}
 use Rattle.queue.proofs.run_of.Goals as goal
 
 pub returns-in-Refused : goal.returns-in-Refused

@@ -1,5 +1,4 @@
 use mathlib.Core.Path.{ap, ◌∙◌}
-use borrow.Author.Rules.{rules}
 use Rattle.totals.specs.clauses.Counting.{totals_of}
 use Rattle.totals.proofs.count_blocks.Goals as goal
 

@@ -1,4 +1,3 @@
-use borrow.Author.Rules.{rules}
 use Rattle.totals.proofs.counted.Goals as goal
 
 pub returns-then-met : goal.returns-then-met

@@ -1,9 +1,6 @@
-use mathlib.Core.Path.{◌≡◌, refl, sym, ◌∙◌}
-use Prim.Native.Nat.{◌≤◌, ◌-◌}
-use lib.ListN.{length, drop}
+use mathlib.Core.Path.{refl, sym, ◌∙◌}
 use borrow.Author.Rules.{rules}
-use Rattle.block_map.specs.BlockMap.{is_used, count_in}
-use Rattle.block_map.specs.clauses.Rows.{greatest_in}
+use Rattle.block_map.specs.BlockMap.{is_used}
 use Rattle.block_map.proofs.Rows.{greatest_more, greatest_done}
 use Rattle.totals.specs.clauses.Counting.{lost_kind}
 use Rattle.totals.specs.Totals.{is_leaked}

@@ -1,13 +1,10 @@
-use mathlib.Core.Path.{◌≡◌, refl, sym, ◌∙◌}
+use mathlib.Core.Path.{◌≡◌}
 use Prim.Native.Nat.{◌≤◌, ◌-◌}
 use lib.ListN.{length, drop}
-use borrow.Author.Rules.{rules}
 use Rattle.block_map.specs.BlockMap.{is_used, count_in}
 use Rattle.block_map.specs.clauses.Rows.{greatest_in}
-use Rattle.block_map.proofs.Rows.{greatest_more, greatest_done}
 use Rattle.totals.specs.clauses.Counting.{lost_kind}
 use Rattle.totals.specs.Totals.{is_leaked}
-use Rattle.totals.proofs.Laws.{counted_fits, count_more, count_done}
 use Rattle.totals.proofs.counts_in.Given as goal
 
 abbrev pub invariant-loop-i : goal.invariant-loop-i

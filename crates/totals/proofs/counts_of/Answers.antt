@@ -1,6 +1,5 @@
 use mathlib.Core.Path.{sym, ◌∙◌}
 use Rattle.totals.proofs.Laws.{zeros_count}
-use borrow.Author.Rules.{rules}
 use Rattle.totals.proofs.counts_of.Goals as goal
 
 pub returns-then-is_zero : goal.returns-then-is_zero

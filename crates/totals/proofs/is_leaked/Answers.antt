@@ -1,6 +1,5 @@
 use mathlib.Core.Path.{sym, ◌∙◌}
 use borrow.Author.Tests.{eq-eqb, ne_eqb}
-use borrow.Author.Rules.{rules}
 use Rattle.totals.specs.Totals.{is_leaked}
 use Rattle.totals.proofs.is_leaked.Goals as goal
 

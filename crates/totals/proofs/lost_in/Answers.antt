@@ -1,12 +1,9 @@
-use mathlib.Core.Logic.{⊎_elim}
-use mathlib.Core.Path.{◌≡◌, refl, sym, ◌∙◌}
-use Prim.Native.Nat.{◌≤◌, ◌+◌, ◌-◌}
+use mathlib.Core.Path.{refl, sym, ◌∙◌}
+use Prim.Native.Nat.{◌+◌, ◌-◌}
 use native.Mathlib.Nat.{add-zero}
 use native.Mathlib.Omega.{arith}
-use lib.ListN.{length, drop}
 use borrow.Author.Rules.{rules}
-use Rattle.report.specs.Report.{kinds}
-use Rattle.totals.specs.clauses.Counting.{first_kind, lost_after}
+use Rattle.totals.specs.clauses.Counting.{first_kind}
 use Rattle.totals.proofs.Laws.{lost_room, after_done, Walked, walked_skip, walked_add, walked_past}
 use Rattle.totals.proofs.lost_in.Goals.{Joined-kind-ne-UNOWNED, then-kind-ne-UNOWNED+then-place-lt-KINDS, then-kind-ne-UNOWNED+else-place-lt-KINDS, else-kind-ne-UNOWNED}
 use Rattle.totals.proofs.lost_in.Goals as goal

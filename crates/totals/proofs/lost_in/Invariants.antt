@@ -1,13 +1,8 @@
-use mathlib.Core.Logic.{⊎_elim}
-use mathlib.Core.Path.{◌≡◌, refl, sym, ◌∙◌}
+use mathlib.Core.Path.{◌≡◌}
 use Prim.Native.Nat.{◌≤◌, ◌+◌, ◌-◌}
-use native.Mathlib.Nat.{add-zero}
-use native.Mathlib.Omega.{arith}
 use lib.ListN.{length, drop}
-use borrow.Author.Rules.{rules}
 use Rattle.report.specs.Report.{kinds}
 use Rattle.totals.specs.clauses.Counting.{first_kind, lost_after}
-use Rattle.totals.proofs.Laws.{lost_room, after_done, Walked, walked_skip, walked_add, walked_past}
 use Rattle.totals.proofs.lost_in.Given as goal
 
 abbrev pub invariant-loop-i : goal.invariant-loop-i

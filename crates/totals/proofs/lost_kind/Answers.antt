@@ -1,5 +1,4 @@
 use mathlib.Core.Path.{sym, ◌∙◌}
-use borrow.Author.Rules.{rules}
 use Rattle.totals.specs.clauses.Counting.{lost_kind}
 use Rattle.totals.proofs.lost_kind.Goals as goal
 

@@ -1,6 +1,4 @@
-use mathlib.Core.Logic.{⊎_elim}
 use borrow.Author.Tests.{eq-eqb, ne_eqb}
-use borrow.Author.Rules.{rules}
 use Rattle.totals.proofs.one_more.Goals.{then-lost-eq0, else-lost-eq0}
 use Rattle.totals.proofs.one_more.Goals as goal
 

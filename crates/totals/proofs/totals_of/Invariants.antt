@@ -1,16 +1,10 @@
-use mathlib.Core.List.{List}
-use mathlib.Core.Path.{◌≡◌, refl, sym, ap, ◌∙◌}
-use Prim.Native.Nat.{ℕ, ◌≤◌, ◌+◌, ◌-◌}
-use native.Mathlib.Omega.{arith}
-use lib.ListN.{length, take, drop}
-use borrow.Author.Rules.{rules}
+use mathlib.Core.Path.{◌≡◌}
+use Prim.Native.Nat.{◌≤◌, ◌-◌}
+use lib.ListN.{length, drop}
 use Rattle.report.specs.Report.{kinds}
-use Rattle.report.specs.declared.Lost.{Lost}
 use Rattle.block_map.specs.BlockMap.{is_used, count_in}
 use Rattle.totals.specs.clauses.Counting.{first_kind, lost_after}
-use Rattle.totals.specs.declared.Counts.{Counts}
 use Rattle.totals.specs.Totals.{is_leaked, lost_from}
-use Rattle.totals.proofs.Laws.{count_fits, count_row, count_done, lost_fits, length_part, after_start, after_row, after_quiet, after_done}
 use Rattle.totals.proofs.totals_of.Given as goal
 
 abbrev pub invariant-loop-at : goal.invariant-loop-at

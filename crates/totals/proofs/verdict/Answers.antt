@@ -1,8 +1,6 @@
-use mathlib.Core.Logic.{⊎_elim}
 use mathlib.Core.Path.{sym, ◌∙◌}
 use native.Mathlib.Omega.{arith}
-use borrow.Author.Tests.{eqb-true, eqb-false, not-true, not-false}
-use borrow.Author.Rules.{rules}
+use borrow.Author.Tests.{eqb-true, eqb-false}
 use Rattle.totals.specs.Totals.{lost_in}
 use Rattle.totals.proofs.Laws.{verdict_clean, verdict_found}
 use Rattle.totals.proofs.verdict.Goals.{then-overlaps-ne0-via-then-overlaps-ne0, then-overlaps-ne0-via-else-overlaps-ne0+then-problems-ne0}

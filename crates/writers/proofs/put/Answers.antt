@@ -1,9 +1,8 @@
 use mathlib.Core.Path.{refl}
-use Rattle.writers.proofs.Laws.{Writing, length_bytes, writing_more, writing_done, bytes_more, bytes_none, bytes_from}
-use Rattle.writers.specs.Bytes.{le_bytes}
+use Rattle.writers.proofs.Laws.{length_bytes, writing_more, writing_done, bytes_more, bytes_none, bytes_from}
 use borrow.Author.Rules.{rules}
 use native.Mathlib.Omega.{arith}
-use Prim.Native.Nat.{◌+◌, ◌-◌, ◌≤◌}
+use Prim.Native.Nat.{◌+◌}
 use Rattle.writers.proofs.put.Goals as goal
 
 pub loop-k-init : goal.loop-k-init

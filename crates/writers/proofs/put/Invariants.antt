@@ -1,8 +1,5 @@
-use mathlib.Core.Path.{refl}
-use Rattle.writers.proofs.Laws.{Writing, length_bytes, writing_more, writing_done, bytes_more, bytes_none, bytes_from}
+use Rattle.writers.proofs.Laws.{Writing}
 use Rattle.writers.specs.Bytes.{le_bytes}
-use borrow.Author.Rules.{rules}
-use native.Mathlib.Omega.{arith}
 use Prim.Native.Nat.{◌+◌, ◌-◌, ◌≤◌}
 use Rattle.writers.proofs.put.Given as goal
 

@@ -1,8 +1,7 @@
-use Rattle.writers.proofs.Laws.{Writing, writing_from, writing_more, writing_done, part_more, part_none}
-use lib.ListN.{length, drop}
+use Rattle.writers.proofs.Laws.{writing_from, writing_more, writing_done, part_more, part_none}
 use borrow.Author.Rules.{rules}
 use native.Mathlib.Omega.{arith}
-use Prim.Native.Nat.{◌+◌, ◌-◌, ◌≤◌}
+use Prim.Native.Nat.{◌+◌}
 use Rattle.writers.proofs.put_bytes.Goals as goal
 
 pub loop-k-init : goal.loop-k-init

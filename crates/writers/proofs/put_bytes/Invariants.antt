@@ -1,7 +1,5 @@
-use Rattle.writers.proofs.Laws.{Writing, writing_from, writing_more, writing_done, part_more, part_none}
+use Rattle.writers.proofs.Laws.{Writing}
 use lib.ListN.{length, drop}
-use borrow.Author.Rules.{rules}
-use native.Mathlib.Omega.{arith}
 use Prim.Native.Nat.{◌+◌, ◌-◌, ◌≤◌}
 use Rattle.writers.proofs.put_bytes.Given as goal
 

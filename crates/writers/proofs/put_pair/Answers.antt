@@ -1,5 +1,4 @@
 use Rattle.writers.proofs.Laws.{wrote_then, pair_of}
-use borrow.Author.Rules.{rules}
 use native.Mathlib.Omega.{arith}
 use Rattle.writers.proofs.put_pair.Goals as goal
 

@@ -1,9 +1,8 @@
 use mathlib.Core.Path.{refl}
-use Rattle.writers.proofs.Laws.{Writing, length_zeros, writing_more, writing_done, zeros_more, zeros_none, zeros_from}
-use lib.ListN.{replicate}
+use Rattle.writers.proofs.Laws.{length_zeros, writing_more, writing_done, zeros_more, zeros_none, zeros_from}
 use borrow.Author.Rules.{rules}
 use native.Mathlib.Omega.{arith}
-use Prim.Native.Nat.{◌+◌, ◌-◌, ◌≤◌}
+use Prim.Native.Nat.{◌+◌}
 use Rattle.writers.proofs.put_zeros.Goals as goal
 
 pub loop-k-init : goal.loop-k-init

@@ -1,8 +1,5 @@
-use mathlib.Core.Path.{refl}
-use Rattle.writers.proofs.Laws.{Writing, length_zeros, writing_more, writing_done, zeros_more, zeros_none, zeros_from}
+use Rattle.writers.proofs.Laws.{Writing}
 use lib.ListN.{replicate}
-use borrow.Author.Rules.{rules}
-use native.Mathlib.Omega.{arith}
 use Prim.Native.Nat.{◌+◌, ◌-◌, ◌≤◌}
 use Rattle.writers.proofs.put_zeros.Given as goal
 

@@ -1,11 +1,7 @@
-use borrow.Author.Rules.{rules}
-use native.Mathlib.Omega.{arith}
 use mathlib.Core.List.{List}
 use Prim.Native.Nat.{ℕ, ◌+◌, ◌≤◌}
-use Rattle.blocks.specs.Reads.{no_blocks}
-use Rattle.report.proofs.StepLaws.{Left, left_first, left_on, left_refused, left_done}
+use Rattle.report.proofs.StepLaws.{Left}
 use Rattle.audit.specs.Audit.{mark_from}
-use Rattle.audit.proofs.BitmapLaws.{bits_done}
 use Rattle.audit.proofs.bitmap.mark_rest.Given as goal
 
 abbrev pub invariant-loop-at : goal.invariant-loop-at

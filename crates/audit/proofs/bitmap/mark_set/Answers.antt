@@ -1,7 +1,6 @@
 use Rattle.audit.proofs.BitmapLaws.{set_refused, set_past, set_marked}
 use Rattle.blocks.specs.clauses.Answers.{number_as}
 use mathlib.Core.Path.{sym, ap, ◌∙◌}
-use borrow.Author.Rules.{rules}
 use Rattle.audit.proofs.bitmap.mark_set.Goals as goal
 
 pub returns-then-container-a : goal.returns-then-container-a

@@ -6,7 +6,6 @@ use Rattle.blocks.proofs.Laws.{then_refused}
 use Rattle.blocks.specs.clauses.Answers.{there_as}
 use borrow.Author.Tests.{not-true, not-false}
 use mathlib.Core.Path.{sym, ap, ◌∙◌}
-use borrow.Author.Rules.{rules}
 use mathlib.Core.Bool.{not}
 use Rattle.audit.proofs.bitmap.read_bitmap.Goals as goal
 

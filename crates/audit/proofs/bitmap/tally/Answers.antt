@@ -1,7 +1,6 @@
 use Rattle.audit.proofs.BitmapLaws.{tally_refused, tally_wrong, tally_done}
 use Rattle.blocks.specs.clauses.Answers.{number_as}
 use mathlib.Core.Path.{sym, ap, ◌∙◌}
-use borrow.Author.Rules.{rules}
 use Rattle.audit.proofs.bitmap.tally.Goals as goal
 
 pub returns-in-Refused : goal.returns-in-Refused

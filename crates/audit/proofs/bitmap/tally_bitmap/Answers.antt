@@ -2,7 +2,6 @@ use Rattle.blocks.proofs.Laws.{then_refused}
 use Rattle.report.proofs.StepLaws.{stepped_refused, stepped_other, step_then}
 use Rattle.audit.specs.Audit.{tally_bitmap}
 use Rattle.audit.proofs.Laws.{answer_is}
-use borrow.Author.Rules.{rules}
 use Rattle.audit.proofs.bitmap.tally_bitmap.Goals as goal
 
 pub returns-in-Refused : goal.returns-in-Refused

@@ -1,4 +1,3 @@
-use borrow.Author.Rules.{rules}
 use Rattle.audit.specs.Audit.{audit_bitmap}
 use Rattle.report.proofs.StepLaws.{step_then, step_stop}
 use Rattle.audit.proofs.chunks.audit_bitmap.Goals as goal

@@ -1,6 +1,5 @@
 use Rattle.audit.proofs.ChunkLaws.{chunk_free, chunk_mapped}
 use Rattle.report.proofs.StepLaws.{stepped_is}
-use borrow.Author.Rules.{rules}
 use Rattle.audit.proofs.chunks.audit_chunk.Goals as goal
 
 pub returns-then-a-eq0 : goal.returns-then-a-eq0

@@ -1,13 +1,6 @@
-use borrow.Author.Rules.{rules}
 use Rattle.audit.proofs.ChunkLaws.{chunks_done, chunks_first}
 use Rattle.audit.proofs.Laws.{answer_is}
-use Prim.Native.Nat.{◌+◌, ◌*◌, ◌^◌, ◌<◌}
-use Rattle.manager.specs.Chunks.{chunks_at, chunk_length}
-use Rattle.manager.specs.clauses.Lists.{records}
-use Rattle.audit.specs.Audit.{audit_chunks}
-use Rattle.audit.specs.clauses.Answers.{audited, pool_at}
-use Rattle.report.proofs.StepLaws.{Left, left_first, left_kept, left_on, left_refused, left_done, stepped_is}
-use Rattle.blocks.specs.Blocks.{block_of}
+use Rattle.report.proofs.StepLaws.{left_first, left_kept, left_on, left_refused, left_done, stepped_is}
 use native.Mathlib.Omega.{arith}
 use Rattle.audit.proofs.chunks.audit_chunks.Goals as goal
 

@@ -1,10 +1,6 @@
-use borrow.Author.Rules.{rules}
 use Rattle.audit.proofs.DeviceLaws.{each_done, each_first}
 use Rattle.audit.proofs.Laws.{answer_is}
-use Rattle.audit.specs.Audit.{audit_info}
-use Rattle.audit.specs.clauses.Answers.{audited, each_left}
-use Rattle.report.proofs.StepLaws.{Left, left_first, left_kept, left_on, left_refused, left_done, stepped_is}
-use Rattle.blocks.specs.Blocks.{block_of}
+use Rattle.report.proofs.StepLaws.{left_first, left_kept, left_on, left_refused, left_done, stepped_is}
 use native.Mathlib.Omega.{arith}
 use Rattle.audit.proofs.chunks.audit_infos.Goals as goal
 

@@ -1,11 +1,7 @@
-use borrow.Author.Rules.{rules}
-use Rattle.audit.proofs.DeviceLaws.{each_done, each_first}
-use Rattle.audit.proofs.Laws.{answer_is}
 use Rattle.audit.specs.Audit.{audit_info}
 use Rattle.audit.specs.clauses.Answers.{audited, each_left}
-use Rattle.report.proofs.StepLaws.{Left, left_first, left_kept, left_on, left_refused, left_done, stepped_is}
+use Rattle.report.proofs.StepLaws.{Left}
 use Rattle.blocks.specs.Blocks.{block_of}
-use native.Mathlib.Omega.{arith}
 use Rattle.audit.proofs.chunks.audit_infos.Given as goal
 
 abbrev pub invariant-loop-at : goal.invariant-loop-at

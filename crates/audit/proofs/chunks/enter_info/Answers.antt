@@ -4,7 +4,6 @@ use Rattle.audit.specs.Audit.{enter_info}
 use Rattle.blocks.proofs.Laws.{then_refused}
 use Rattle.blocks.specs.clauses.Answers.{there_as}
 use mathlib.Core.Path.{sym, ap, ◌∙◌}
-use borrow.Author.Rules.{rules}
 use Rattle.audit.proofs.chunks.enter_info.Goals as goal
 
 pub returns-in-Refused : goal.returns-in-Refused

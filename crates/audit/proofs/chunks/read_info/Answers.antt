@@ -6,7 +6,6 @@ use Rattle.blocks.specs.Blocks.{block_of}
 use Rattle.blocks.specs.clauses.Answers.{there_as}
 use Rattle.blocks.specs.Reads.{given}
 use mathlib.Core.Path.{refl, sym, ap, ◌∙◌}
-use borrow.Author.Rules.{rules}
 use Rattle.audit.proofs.chunks.read_info.Goals as goal
 
 pub enter_info-requires : goal.enter_info-requires

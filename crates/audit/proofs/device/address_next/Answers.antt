@@ -1,4 +1,3 @@
-use borrow.Author.Rules.{rules}
 use Rattle.audit.proofs.DeviceLaws.{each_more}
 use Rattle.audit.proofs.Laws.{past_is}
 use Rattle.report.proofs.StepLaws.{moves_past}

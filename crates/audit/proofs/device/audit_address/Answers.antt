@@ -1,6 +1,5 @@
 use Rattle.report.proofs.StepLaws.{step_then, step_stop}
 use Rattle.audit.specs.Audit.{audit_address}
-use borrow.Author.Rules.{rules}
 use Rattle.audit.proofs.device.audit_address.Goals as goal
 
 pub returns-in-Refused : goal.returns-in-Refused

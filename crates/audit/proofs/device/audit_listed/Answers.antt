@@ -1,7 +1,6 @@
 use mathlib.Core.Path.{sym, ◌∙◌}
 use Rattle.audit.proofs.DeviceLaws.{listed_addresses, listed_infos}
 use Rattle.report.proofs.StepLaws.{stepped_is}
-use borrow.Author.Rules.{rules}
 use Rattle.audit.proofs.device.audit_listed.Goals as goal
 
 pub returns-then-has_address_blocks : goal.returns-then-has_address_blocks

@@ -2,7 +2,6 @@ use Rattle.audit.proofs.DeviceLaws.{address_there, address_absent}
 use Rattle.audit.proofs.Laws.{answer_refused}
 use Rattle.blocks.specs.clauses.Answers.{there_as}
 use mathlib.Core.Path.{sym, ap, ◌∙◌}
-use borrow.Author.Rules.{rules}
 use Rattle.audit.proofs.device.enter_address.Goals as goal
 
 pub returns-in-Refused : goal.returns-in-Refused

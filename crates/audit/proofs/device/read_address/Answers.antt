@@ -5,7 +5,6 @@ use Rattle.blocks.proofs.Laws.{then_refused}
 use Rattle.blocks.specs.Blocks.{block_of}
 use Rattle.blocks.specs.clauses.Answers.{there_as}
 use mathlib.Core.Path.{refl, sym, ap, ◌∙◌}
-use borrow.Author.Rules.{rules}
 use Rattle.audit.proofs.device.read_address.Goals as goal
 
 pub enter_address-requires : goal.enter_address-requires

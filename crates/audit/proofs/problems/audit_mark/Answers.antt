@@ -1,6 +1,5 @@
 use Rattle.audit.specs.Audit.{audit_mark}
 use Rattle.audit.proofs.Laws.{unless_is}
-use borrow.Author.Rules.{rules}
 use Rattle.audit.proofs.problems.audit_mark.Goals as goal
 
 pub returns : goal.returns

@@ -3,7 +3,6 @@ use Rattle.audit.proofs.Laws.{unless_is}
 use Rattle.report.proofs.StepLaws.{step_then, step_stop}
 use mathlib.Core.Path.{ap}
 use mathlib.Core.Bool.{not}
-use borrow.Author.Rules.{rules}
 use Rattle.audit.proofs.problems.audit_use.Goals as goal
 
 pub returns-in-Refused : goal.returns-in-Refused

@@ -1,7 +1,6 @@
 use Rattle.audit.specs.Audit.{audit_queued_block}
 use Rattle.audit.proofs.Laws.{entered}
 use Rattle.report.proofs.StepLaws.{step_then, step_stop}
-use borrow.Author.Rules.{rules}
 use Rattle.audit.proofs.queued.audit_block.Goals as goal
 
 pub returns-in-Refused : goal.returns-in-Refused

@@ -3,7 +3,6 @@ use Rattle.audit.proofs.Laws.{answer_refused}
 use Rattle.queue.specs.clauses.Answers.{run_as}
 use borrow.Author.Tests.{not-true, not-false, leb-true}
 use mathlib.Core.Path.{sym, ap, ◌∙◌}
-use borrow.Author.Rules.{rules}
 use mathlib.Core.Bool.{not}
 use Rattle.audit.proofs.queued.audit_queued.Goals as goal
 

@@ -1,10 +1,6 @@
-use borrow.Author.Rules.{rules}
-use Rattle.audit.proofs.QueuedLaws.{queued_done}
-use Rattle.audit.proofs.Laws.{answer_is}
 use Rattle.audit.specs.clauses.Answers.{audited, queued_left}
-use Rattle.report.proofs.StepLaws.{Left, left_first, left_kept, left_on, left_refused, left_done}
+use Rattle.report.proofs.StepLaws.{Left}
 use Rattle.blocks.specs.Blocks.{block_of}
-use native.Mathlib.Omega.{arith}
 use Rattle.audit.proofs.queued.audit_run.Given as goal
 
 abbrev pub invariant-loop-at : goal.invariant-loop-at

@@ -3,7 +3,6 @@ use Rattle.audit.proofs.Laws.{past_is}
 use Rattle.report.proofs.StepLaws.{moves_past}
 use Rattle.blocks.specs.Reads.{run}
 use mathlib.Core.Path.{refl, ap}
-use borrow.Author.Rules.{rules}
 use Rattle.audit.proofs.queued.queued_next.Goals as goal
 
 pub returns : goal.returns

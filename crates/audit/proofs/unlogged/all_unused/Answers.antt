@@ -1,11 +1,7 @@
 use Rattle.audit.proofs.UnloggedLaws.{unused_done, unused_used, unused_unmarked, unused_more}
 use Rattle.pool.proofs.Laws.{block_fits, block_part}
-use Rattle.blocks.specs.Blocks.{block_of}
-use Rattle.audit.specs.clauses.Answers.{pool_at}
-use Rattle.audit.specs.clauses.Unlogged.{all_unused}
 use borrow.Author.Tests.{not-true, not-false}
-use mathlib.Core.Path.{◌≡◌, refl, sym, ◌∙◌}
-use Prim.Native.Nat.{◌+◌, ◌-◌, ◌≤◌}
+use mathlib.Core.Path.{refl, sym, ◌∙◌}
 use native.Mathlib.Nat.{sub-zero, add-zero}
 use native.Mathlib.Omega.{arith}
 use borrow.Author.Rules.{rules}

@@ -1,9 +1,7 @@
 use Rattle.audit.proofs.UnloggedLaws.{use_done, use_more}
 use Rattle.audit.specs.clauses.Unlogged.{used_from}
-use mathlib.Core.Path.{◌≡◌, refl, sym, ap, ◌∙◌}
-use Prim.Native.Nat.{◌+◌, ◌-◌, ◌≤◌}
+use mathlib.Core.Path.{refl, sym, ap, ◌∙◌}
 use native.Mathlib.Nat.{sub-zero, add-zero}
-use lib.ListN.{length}
 use borrow.Author.Rules.{rules}
 use Rattle.audit.proofs.unlogged.use_run.Goals as goal
 

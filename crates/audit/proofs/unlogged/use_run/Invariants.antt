@@ -1,10 +1,7 @@
-use Rattle.audit.proofs.UnloggedLaws.{use_done, use_more}
 use Rattle.audit.specs.clauses.Unlogged.{used_from}
-use mathlib.Core.Path.{◌≡◌, refl, sym, ap, ◌∙◌}
+use mathlib.Core.Path.{◌≡◌}
 use Prim.Native.Nat.{◌+◌, ◌-◌, ◌≤◌}
-use native.Mathlib.Nat.{sub-zero, add-zero}
 use lib.ListN.{length}
-use borrow.Author.Rules.{rules}
 use Rattle.audit.proofs.unlogged.use_run.Given as goal
 
 abbrev pub invariant-loop-i : goal.invariant-loop-i

@@ -1,6 +1,5 @@
 use mathlib.Core.Path.{refl, sym}
 use native.Mathlib.Nat.{add-zero}
-use borrow.Author.Rules.{rules}
 use Rattle.audit.proofs.OnesLaws.{ones_few, ones_all}
 use Rattle.audit.proofs.WholeLaws.{byte_marked}
 use Rattle.audit.proofs.whole.mark_byte.Goals as goal

@@ -2,10 +2,8 @@ use native.Mathlib.Nat.{sub-zero}
 use borrow.Author.Rules.{rules}
 use Rattle.audit.proofs.WholeLaws.{bytes_few, bytes_long, bytes_more, byte_none, bits_over}
 use Rattle.audit.specs.clauses.Bits.{bits_marked}
-use lib.ListN.{length}
 use mathlib.Core.Path.{◌≡◌, refl, sym, ◌∙◌}
-use mathlib.Core.Logic.{⊎_elim}
-use Prim.Native.Nat.{◌-◌, ◌*◌, ◌≤◌}
+use Prim.Native.Nat.{◌*◌}
 use native.Mathlib.Omega.{arith}
 use Rattle.audit.proofs.whole.mark_bytes.Goals.{Joined-bits-at-eq0, then-bits-at-eq0, else-bits-at-eq0}
 use Rattle.audit.proofs.whole.mark_bytes.Goals as goal

@@ -1,12 +1,7 @@
-use native.Mathlib.Nat.{add-zero}
-use borrow.Author.Rules.{rules}
-use Rattle.audit.proofs.WholeLaws.{byte_more, bits_over}
 use Rattle.audit.specs.clauses.Bits.{bits_marked}
-use Rattle.block_map.specs.BlockMap.{Marked}
 use lib.ListN.{length}
-use mathlib.Core.Path.{◌≡◌, refl, sym, ap, ◌∙◌}
-use Prim.Native.Nat.{ℕ, ◌+◌, ◌-◌, ◌*◌, ◌≤◌}
-use native.Mathlib.Omega.{arith}
+use mathlib.Core.Path.{◌≡◌}
+use Prim.Native.Nat.{◌+◌, ◌-◌, ◌*◌, ◌≤◌}
 use Rattle.audit.proofs.whole.mark_eight.Given as goal
 
 abbrev pub invariant-loop-k : goal.invariant-loop-k

@@ -1,5 +1,4 @@
 use mathlib.Core.Path.{refl, ◌∙◌}
-use borrow.Author.Rules.{rules}
 use Rattle.audit.proofs.whole.whole_bytes.Goals as goal
 
 pub returns : goal.returns

@@ -1,4 +1,3 @@
-use borrow.Author.Rules.{rules}
 use Rattle.audit.proofs.whole.with_bit.Goals as goal
 
 pub returns-then-set : goal.returns-then-set

@@ -1,8 +1,6 @@
 use mathlib.Core.Path.{sym, ap, ◌∙◌}
-use Rattle.checkpoint.specs.Geometry.{stated, allowed}
 use Rattle.checkpoint.specs.Superblock.{magic_of}
 use Rattle.checkpoint.proofs.OpeningLaws.{open_short, open_other, open_stated}
-use borrow.Author.Rules.{rules}
 use Rattle.checkpoint.proofs.block_zero.geometry.Goals as goal
 
 pub returns-then-len-lt-LEAST_SIZE : goal.returns-then-len-lt-LEAST_SIZE

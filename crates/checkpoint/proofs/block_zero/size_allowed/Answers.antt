@@ -1,7 +1,5 @@
-use mathlib.Core.Path.{◌≡◌, refl, sym, ◌∙◌}
-use Prim.Native.Nat.{◌-◌}
-use borrow.Author.Rules.{rules}
-use Rattle.checkpoint.specs.Geometry.{power_from, size_allowed}
+use mathlib.Core.Path.{refl, sym, ◌∙◌}
+use Rattle.checkpoint.specs.Geometry.{size_allowed}
 use Rattle.checkpoint.proofs.OpeningLaws.{power_done, power_here, power_on, power_shift}
 use Rattle.checkpoint.proofs.block_zero.size_allowed.Goals as goal
 

@@ -1,8 +1,6 @@
-use mathlib.Core.Path.{◌≡◌, refl, sym, ◌∙◌}
+use mathlib.Core.Path.{◌≡◌}
 use Prim.Native.Nat.{◌-◌}
-use borrow.Author.Rules.{rules}
 use Rattle.checkpoint.specs.Geometry.{power_from, size_allowed}
-use Rattle.checkpoint.proofs.OpeningLaws.{power_done, power_here, power_on, power_shift}
 use Rattle.checkpoint.proofs.block_zero.size_allowed.Given as goal
 
 abbrev pub invariant-loop-k : goal.invariant-loop-k

@@ -1,4 +1,3 @@
-use borrow.Author.Rules.{rules}
 use Rattle.checkpoint.proofs.block_zero.stated.Goals as goal
 
 pub returns : goal.returns

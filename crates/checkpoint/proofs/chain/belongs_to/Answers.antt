@@ -1,7 +1,6 @@
 use native.Mathlib.Omega.{arith}
 use mathlib.Core.Path.{sym, ◌∙◌}
 use Rattle.checkpoint.proofs.ChainLaws.{belongs_kind, belongs_xid, belongs_entries, belongs_sum}
-use borrow.Author.Rules.{rules}
 use Rattle.checkpoint.proofs.chain.belongs_to.Goals as goal
 
 pub returns-then-kind-ne-CHECKPOINT_MAP : goal.returns-then-kind-ne-CHECKPOINT_MAP

@@ -1,7 +1,6 @@
 use mathlib.Core.Path.{sym}
 use native.Mathlib.Omega.{arith}
 use Rattle.checkpoint.proofs.ChainLaws.{link_at, link_zero, link_past}
-use borrow.Author.Rules.{rules}
 use Rattle.checkpoint.proofs.chain.link.Goals as goal
 
 pub returns-then-geometry-base : goal.returns-then-geometry-base

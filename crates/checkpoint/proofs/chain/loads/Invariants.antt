@@ -1,12 +1,9 @@
-use borrow.Author.Rules.{rules}
-use native.Mathlib.Nat.{sub-zero}
 use Prim.Native.Nat.{◌-◌}
-use mathlib.Core.Path.{◌≡◌, refl, sym, ap, ◌∙◌}
+use mathlib.Core.Path.{◌≡◌}
 use mathlib.Core.Bool.{true}
 use Rattle.blocks.specs.Blocks.{block_of}
-use Rattle.checkpoint.specs.Map.{chain}
-use Rattle.checkpoint.specs.clauses.InPlace.{turns, tested_as, loads}
-use Rattle.checkpoint.proofs.ChainLaws.{test_turn, turns_done, turns_stop, turns_onward, loads_ring}
+use Rattle.checkpoint.specs.clauses.InPlace.{turns}
+use Rattle.checkpoint.proofs.ChainLaws.{test_turn}
 use Rattle.checkpoint.proofs.chain.loads.Given as goal
 
 abbrev pub invariant-loop-k : goal.invariant-loop-k

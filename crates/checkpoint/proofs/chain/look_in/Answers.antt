@@ -1,6 +1,5 @@
 use mathlib.Core.Path.{sym, ◌∙◌}
 use Rattle.checkpoint.proofs.ChainLaws.{look_outside, look_found, look_ends, look_onward}
-use borrow.Author.Rules.{rules}
 use Rattle.checkpoint.proofs.chain.look_in.Goals as goal
 
 pub returns-in-Outside : goal.returns-in-Outside

@@ -1,12 +1,9 @@
-use borrow.Author.Rules.{rules}
-use native.Mathlib.Omega.{arith}
-use native.Mathlib.Nat.{sub-zero}
 use Prim.Native.Nat.{◌-◌}
-use mathlib.Core.Path.{◌≡◌, refl, sym, ap, ◌∙◌}
+use mathlib.Core.Path.{◌≡◌}
 use Rattle.blocks.specs.Blocks.{block_of}
 use Rattle.checkpoint.specs.declared.Mapped.TheVariants.{Nowhere}
-use Rattle.checkpoint.specs.clauses.InPlace.{turns, looked_as, lookup_in}
-use Rattle.checkpoint.proofs.ChainLaws.{look_turn, turns_done, turns_stop, turns_onward, lookup_ring, lookup_none}
+use Rattle.checkpoint.specs.clauses.InPlace.{turns}
+use Rattle.checkpoint.proofs.ChainLaws.{look_turn}
 use Rattle.checkpoint.proofs.chain.lookup_along.Given as goal
 
 abbrev pub invariant-loop-k : goal.invariant-loop-k

@@ -1,6 +1,4 @@
-use borrow.Author.Rules.{rules}
 use native.Mathlib.Nat.{sub-zero}
-use Prim.Native.Nat.{◌-◌}
 use mathlib.Core.Path.{◌≡◌, refl, sym, ◌∙◌}
 use Rattle.checkpoint.specs.Map.{mappings_of, lookup}
 use Rattle.checkpoint.proofs.ChainLaws.{left, block_done, block_here, block_next}

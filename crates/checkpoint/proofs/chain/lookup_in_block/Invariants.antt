@@ -1,9 +1,6 @@
-use borrow.Author.Rules.{rules}
-use native.Mathlib.Nat.{sub-zero}
 use Prim.Native.Nat.{◌-◌}
-use mathlib.Core.Path.{◌≡◌, refl, sym, ◌∙◌}
-use Rattle.checkpoint.specs.Map.{mappings_of, lookup}
-use Rattle.checkpoint.proofs.ChainLaws.{left, block_done, block_here, block_next}
+use mathlib.Core.Path.{◌≡◌}
+use Rattle.checkpoint.proofs.ChainLaws.{left}
 use Rattle.checkpoint.proofs.chain.lookup_in_block.Given as goal
 
 abbrev pub invariant-loop-i : goal.invariant-loop-i

@@ -1,7 +1,6 @@
 use borrow.Author.Tests.{not-true, not-false}
 use mathlib.Core.Path.{sym, ◌∙◌}
 use Rattle.checkpoint.proofs.ChainLaws.{test_outside, test_fails, test_ends, test_onward}
-use borrow.Author.Rules.{rules}
 use mathlib.Core.Path.{ap}
 use mathlib.Core.Bool.{not}
 use Rattle.checkpoint.proofs.chain.test_block.Goals as goal

@@ -1,6 +1,5 @@
 use Rattle.checkpoint.proofs.SearchLaws.{admit_first, admit_second, admit_differs, admit_as}
 use mathlib.Core.Path.{sym, ◌∙◌}
-use borrow.Author.Rules.{rules}
 use Rattle.checkpoint.proofs.choice.admit.Goals as goal
 
 pub returns-then-has_bit : goal.returns-then-has_bit

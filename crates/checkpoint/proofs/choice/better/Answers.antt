@@ -1,7 +1,6 @@
 use borrow.Author.Tests.{not-true, not-false}
 use mathlib.Core.Path.{sym, ◌∙◌}
 use Rattle.checkpoint.proofs.SearchLaws.{better_kind, better_magic, better_after, better_ahead, better_sum, better_wins}
-use borrow.Author.Rules.{rules}
 use mathlib.Core.Path.{ap}
 use mathlib.Core.Bool.{not}
 use Rattle.checkpoint.proofs.choice.better.Goals as goal

@@ -1,7 +1,6 @@
 use mathlib.Core.Path.{refl, sym}
 use Rattle.checkpoint.specs.Checkpoint.{is_after}
 use Rattle.checkpoint.proofs.SearchLaws.{after_lower, after_equal, after_higher}
-use borrow.Author.Rules.{rules}
 use Rattle.checkpoint.proofs.choice.is_after.Goals as goal
 
 pub returns-then-xid-c : goal.returns-then-xid-c

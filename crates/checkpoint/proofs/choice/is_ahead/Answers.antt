@@ -1,6 +1,5 @@
 use mathlib.Core.Path.{refl}
 use Rattle.checkpoint.specs.Checkpoint.{is_ahead}
-use borrow.Author.Rules.{rules}
 use Rattle.checkpoint.proofs.choice.is_ahead.Goals as goal
 
 pub returns-in-Nothing : goal.returns-in-Nothing

@@ -1,10 +1,6 @@
-use borrow.Author.Rules.{rules}
 use native.Mathlib.Nat.{sub-zero, add-zero}
-use Prim.Native.Nat.{◌-◌}
-use mathlib.Core.Path.{◌≡◌, refl, sym, ◌∙◌}
-use Rattle.blocks.specs.Blocks.{block_of}
-use Rattle.checkpoint.specs.declared.Best.TheVariants.{Nothing}
-use Rattle.checkpoint.proofs.SearchLaws.{best_left, best_done, best_turn}
+use mathlib.Core.Path.{refl, sym, ◌∙◌}
+use Rattle.checkpoint.proofs.SearchLaws.{best_done, best_turn}
 use Rattle.checkpoint.proofs.choice.next_best.Goals as goal
 
 pub loop-i-init : goal.loop-i-init

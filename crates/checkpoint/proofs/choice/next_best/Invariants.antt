@@ -1,10 +1,8 @@
-use borrow.Author.Rules.{rules}
-use native.Mathlib.Nat.{sub-zero, add-zero}
 use Prim.Native.Nat.{◌-◌}
-use mathlib.Core.Path.{◌≡◌, refl, sym, ◌∙◌}
+use mathlib.Core.Path.{◌≡◌}
 use Rattle.blocks.specs.Blocks.{block_of}
 use Rattle.checkpoint.specs.declared.Best.TheVariants.{Nothing}
-use Rattle.checkpoint.proofs.SearchLaws.{best_left, best_done, best_turn}
+use Rattle.checkpoint.proofs.SearchLaws.{best_left}
 use Rattle.checkpoint.proofs.choice.next_best.Given as goal
 
 abbrev pub invariant-loop-i : goal.invariant-loop-i

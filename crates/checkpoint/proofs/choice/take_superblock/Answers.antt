@@ -1,9 +1,6 @@
-use borrow.Author.Rules.{rules}
 use native.Mathlib.Omega.{arith}
-use mathlib.Core.Path.{◌≡◌, refl, sym, ◌∙◌}
-use Rattle.checkpoint.specs.declared.Best.TheVariants.{Nothing}
-use Rattle.blocks.specs.Blocks.{block_of}
-use Rattle.checkpoint.proofs.SearchLaws.{try_left, next_inside, take_tries, try_end, try_none, try_here, try_next}
+use mathlib.Core.Path.{refl, sym, ◌∙◌}
+use Rattle.checkpoint.proofs.SearchLaws.{next_inside, take_tries, try_end, try_none, try_here, try_next}
 use Rattle.checkpoint.proofs.choice.take_superblock.Goals as goal
 
 pub loop-left-init : goal.loop-left-init

@@ -1,4 +1,3 @@
-use borrow.Author.Rules.{rules}
 use Rattle.checkpoint.proofs.superblock.object_map_address.Goals as goal
 
 pub returns : goal.returns

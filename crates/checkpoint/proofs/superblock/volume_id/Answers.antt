@@ -1,4 +1,3 @@
-use borrow.Author.Rules.{rules}
 use Rattle.checkpoint.proofs.superblock.volume_id.Goals as goal
 
 pub returns : goal.returns

@@ -4,7 +4,6 @@ use Rattle.blocks.specs.clauses.Answers.{number_as}
 use Rattle.claims.proofs.Laws.{mapping_ghost, mapping_deleted, mapping_live}
 use Rattle.block_map.proofs.Laws.{kept_same, not_made, was_made}
 use Rattle.claims.proofs.UnloggedLaws.{always_is, made_as, ghost_alone, deleted_alone, address_missing, address_there}
-use borrow.Author.Rules.{rules}
 use Rattle.claims.proofs.unlogged.claim_mapping.Goals as goal
 
 pub returns-then-is_deleted : goal.returns-then-is_deleted

@@ -5,7 +5,6 @@ use Rattle.queue.specs.clauses.Answers.{run_as}
 use Rattle.claims.specs.Claims.{claim_queued}
 use Rattle.block_map.proofs.Laws.{not_made}
 use Rattle.claims.proofs.UnloggedLaws.{always_is, made_as, run_missing, run_there}
-use borrow.Author.Rules.{rules}
 use Rattle.claims.proofs.unlogged.claim_queued.Goals as goal
 
 pub returns-in-Refused : goal.returns-in-Refused

@@ -3,7 +3,6 @@ use Rattle.blocks.specs.Reads.{no_blocks}
 use Rattle.blocks.specs.clauses.Answers.{number_as}
 use Rattle.block_map.proofs.Laws.{not_made}
 use Rattle.claims.proofs.UnloggedLaws.{always_is, sum_missing, sum_there, claim_made}
-use borrow.Author.Rules.{rules}
 use Rattle.claims.proofs.unlogged.claim_unlogged.Goals as goal
 
 pub returns-then-takes_all : goal.returns-then-takes_all

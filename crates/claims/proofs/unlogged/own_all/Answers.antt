@@ -1,7 +1,4 @@
-use mathlib.Core.Path.{◌≡◌, refl, sym, ◌∙◌}
-use Prim.Native.Nat.{◌-◌, ◌%◌}
-use borrow.Author.Rules.{rules}
-use Rattle.claims.specs.clauses.Unlogged.{owned_from}
+use mathlib.Core.Path.{refl, sym, ◌∙◌}
 use Rattle.claims.proofs.UnloggedLaws.{owned_done, owned_more, owned_long}
 use Rattle.claims.proofs.unlogged.own_all.Goals as goal
 

@@ -1,8 +1,6 @@
-use mathlib.Core.Path.{◌≡◌, refl, sym, ◌∙◌}
+use mathlib.Core.Path.{◌≡◌}
 use Prim.Native.Nat.{◌-◌, ◌%◌}
-use borrow.Author.Rules.{rules}
 use Rattle.claims.specs.clauses.Unlogged.{owned_from}
-use Rattle.claims.proofs.UnloggedLaws.{owned_done, owned_more, owned_long}
 use Rattle.claims.proofs.unlogged.own_all.Given as goal
 
 abbrev pub invariant-loop-a : goal.invariant-loop-a

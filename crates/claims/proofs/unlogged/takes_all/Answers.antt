@@ -1,7 +1,4 @@
-use mathlib.Core.Path.{◌≡◌, refl, sym, ◌∙◌}
-use Prim.Native.Nat.{◌-◌}
-use borrow.Author.Rules.{rules}
-use Rattle.claims.specs.clauses.Unlogged.{taken_from}
+use mathlib.Core.Path.{refl, sym, ◌∙◌}
 use Rattle.claims.proofs.UnloggedLaws.{taken_done, taken_more, taken_not}
 use Rattle.claims.proofs.unlogged.takes_all.Goals as goal
 

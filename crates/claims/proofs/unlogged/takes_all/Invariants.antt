@@ -1,8 +1,6 @@
-use mathlib.Core.Path.{◌≡◌, refl, sym, ◌∙◌}
+use mathlib.Core.Path.{◌≡◌}
 use Prim.Native.Nat.{◌-◌}
-use borrow.Author.Rules.{rules}
 use Rattle.claims.specs.clauses.Unlogged.{taken_from}
-use Rattle.claims.proofs.UnloggedLaws.{taken_done, taken_more, taken_not}
 use Rattle.claims.proofs.unlogged.takes_all.Given as goal
 
 abbrev pub invariant-loop-a : goal.invariant-loop-a

@@ -1,5 +1,4 @@
 use Rattle.free_ring.proofs.AuditLaws.{end_tail, end_again, end_outside}
-use borrow.Author.Rules.{rules}
 use Rattle.free_ring.proofs.audits.audit_end.Goals as goal
 
 pub returns-in-Tail : goal.returns-in-Tail

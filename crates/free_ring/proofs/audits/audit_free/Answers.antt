@@ -2,7 +2,6 @@ use Rattle.free_ring.specs.clauses.Sets.{set_bytes}
 use mathlib.Core.Path.{refl}
 use Rattle.free_ring.proofs.SetLaws.{clear_set}
 use Rattle.free_ring.proofs.AuditLaws.{free_none, free_refused, free_closed}
-use borrow.Author.Rules.{rules}
 use Rattle.free_ring.proofs.audits.audit_free.Goals as goal
 
 pub returns-then-list-eq-NO_HEAD : goal.returns-then-list-eq-NO_HEAD

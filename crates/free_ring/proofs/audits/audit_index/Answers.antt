@@ -1,6 +1,5 @@
 use borrow.Author.Tests.{not-true, not-false}
 use Rattle.free_ring.proofs.AuditLaws.{index_free, index_used}
-use borrow.Author.Rules.{rules}
 use mathlib.Core.Path.{ap}
 use mathlib.Core.Bool.{not}
 use Rattle.free_ring.proofs.audits.audit_index.Goals as goal

@@ -2,7 +2,6 @@ use mathlib.Core.Path.{sym, ap, ◌∙◌}
 use Rattle.blocks.specs.clauses.Answers.{there_as}
 use Rattle.free_ring.specs.FreeRing.{audit_table, audit_ring}
 use Rattle.free_ring.proofs.AuditLaws.{list_absent, list_given}
-use borrow.Author.Rules.{rules}
 use Rattle.free_ring.proofs.audits.audit_ring.Goals as goal
 
 pub returns-in-Refused : goal.returns-in-Refused

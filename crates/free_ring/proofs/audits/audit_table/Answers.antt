@@ -1,7 +1,6 @@
 use mathlib.Core.Path.{sym, ap, ◌∙◌}
 use Rattle.blocks.specs.clauses.Answers.{there_as}
 use Rattle.free_ring.proofs.AuditLaws.{table_absent, table_there}
-use borrow.Author.Rules.{rules}
 use Rattle.free_ring.proofs.audits.audit_table.Goals as goal
 
 pub audit_free-requires : goal.audit_free-requires

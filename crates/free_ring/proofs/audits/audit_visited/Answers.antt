@@ -1,6 +1,4 @@
-use Rattle.manager.specs.clauses.Place.{bytes_of}
-use Rattle.manager.specs.clauses.Lists.{values}
-use Rattle.free_ring.proofs.AuditLaws.{Visiting, visiting, visited_all, visiting_stop, visiting_on}
+use Rattle.free_ring.proofs.AuditLaws.{visiting, visited_all, visiting_stop, visiting_on}
 use borrow.Author.Rules.{rules}
 use Rattle.free_ring.proofs.audits.audit_visited.Goals as goal
 

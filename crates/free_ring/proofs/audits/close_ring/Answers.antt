@@ -1,5 +1,4 @@
 use Rattle.free_ring.proofs.AuditLaws.{closed_refused, closed_done}
-use borrow.Author.Rules.{rules}
 use Rattle.free_ring.proofs.audits.close_ring.Goals as goal
 
 pub returns-in-Refused : goal.returns-in-Refused

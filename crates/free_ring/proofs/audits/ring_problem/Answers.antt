@@ -1,6 +1,5 @@
 use native.Mathlib.Omega.{arith}
 use Rattle.free_ring.proofs.AuditLaws.{problem_past, problem_fits}
-use borrow.Author.Rules.{rules}
 use Rattle.free_ring.proofs.audits.ring_problem.Goals as goal
 
 pub returns-then-base-index : goal.returns-then-base-index

@@ -1,10 +1,6 @@
-use Rattle.pool.specs.clauses.Load.{places}
-use Rattle.blocks.specs.Blocks.{block_of}
 use Rattle.free_ring.proofs.WalkLaws.{filled_none, filled_more, filled_all}
 use mathlib.Core.Path.{sym, ◌∙◌}
-use Prim.Native.Nat.{◌-◌, ◌≤◌}
 use native.Mathlib.Omega.{arith}
-use Rattle.free_ring.specs.clauses.Sets.{SetOf}
 use borrow.Author.Rules.{rules}
 use Rattle.free_ring.proofs.sets.in_use.Goals as goal
 

@@ -1,6 +1,5 @@
 use Rattle.free_ring.proofs.SetLaws.{bit_put, one_shifted}
 use native.Mathlib.Omega.{arith}
-use borrow.Author.Rules.{rules}
 use Rattle.free_ring.proofs.sets.set_bit.Goals as goal
 
 pub returns : goal.returns

@@ -1,5 +1,4 @@
 use Rattle.free_ring.proofs.WalkLaws.{free_list_read}
-use borrow.Author.Rules.{rules}
 use Rattle.free_ring.proofs.walks.free_list.Goals as goal
 
 pub returns : goal.returns

@@ -1,6 +1,5 @@
 use native.Mathlib.Omega.{arith}
 use Rattle.free_ring.proofs.WalkLaws.{entry_past_table, entry_of_table}
-use borrow.Author.Rules.{rules}
 use Rattle.free_ring.proofs.walks.next_index.Goals as goal
 
 pub returns-then-list-index : goal.returns-then-list-index

@@ -1,11 +1,8 @@
 use Rattle.free_ring.specs.clauses.Sets.{set_bytes}
-use Rattle.manager.specs.clauses.Place.{bytes_of}
 use mathlib.Core.Path.{refl, sym}
-use Prim.Native.Nat.{suc, ◌-◌}
 use native.Mathlib.Omega.{arith}
 use Rattle.manager.proofs.ListLaws.{values_length}
-use Rattle.manager.specs.clauses.Lists.{values}
-use Rattle.free_ring.proofs.WalkLaws.{Walking, walking, walked_outside, walked_again, room, walked_tail, walking_on}
+use Rattle.free_ring.proofs.WalkLaws.{walking, walked_outside, walked_again, room, walked_tail, walking_on}
 use borrow.Author.Rules.{rules}
 use Rattle.free_ring.proofs.walks.walk.Goals as goal
 

@@ -1,5 +1,4 @@
 use Rattle.manager.proofs.ListLaws.{held_manager, held_block, number_in}
-use borrow.Author.Rules.{rules}
 use Rattle.manager.proofs.addresses.address_at.Goals as goal
 
 pub returns-in-InManager : goal.returns-in-InManager

@@ -1,5 +1,4 @@
 use Rattle.manager.proofs.ListLaws.{addresses_read}
-use borrow.Author.Rules.{rules}
 use Rattle.manager.proofs.addresses.addresses_of.Goals as goal
 
 pub returns : goal.returns

@@ -1,5 +1,4 @@
 use mathlib.Core.Path.{sym}
-use borrow.Author.Rules.{rules}
 use Rattle.manager.proofs.addresses.addresses_there.Goals as goal
 
 pub returns : goal.returns

@@ -2,7 +2,6 @@ use mathlib.Core.Path.{sym, ap, ◌∙◌}
 use lib.ListN.{length}
 use Rattle.manager.proofs.Laws.{placed_length}
 use Rattle.manager.proofs.ListLaws.{held_manager, held_block}
-use borrow.Author.Rules.{rules}
 use Rattle.manager.proofs.addresses.bytes_held.Goals as goal
 
 pub returns-in-InManager : goal.returns-in-InManager

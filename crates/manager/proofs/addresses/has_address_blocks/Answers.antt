@@ -1,6 +1,5 @@
 use mathlib.Core.Path.{ap}
 use lib.Dec.{ltb}
-use borrow.Author.Rules.{rules}
 use Rattle.manager.proofs.addresses.has_address_blocks.Goals as goal
 
 pub returns : goal.returns

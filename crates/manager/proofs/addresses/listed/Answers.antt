@@ -1,5 +1,4 @@
 use Rattle.manager.proofs.ListLaws.{listed_read}
-use borrow.Author.Rules.{rules}
 use Rattle.manager.proofs.addresses.listed.Goals as goal
 
 pub returns : goal.returns

@@ -1,6 +1,5 @@
 use mathlib.Core.Path.{sym, ◌∙◌}
 use Rattle.manager.proofs.ListLaws.{counted_true, counted_false}
-use borrow.Author.Rules.{rules}
 use Rattle.manager.proofs.addresses.listed_count.Goals as goal
 
 pub returns-then-has_address_blocks : goal.returns-then-has_address_blocks

@@ -1,6 +1,5 @@
 use native.Mathlib.Omega.{arith}
 use Rattle.manager.proofs.ListLaws.{chunk_past, chunk_read}
-use borrow.Author.Rules.{rules}
 use Rattle.manager.proofs.chunks.chunk_at.Goals as goal
 
 pub returns-then-whole-index : goal.returns-then-whole-index

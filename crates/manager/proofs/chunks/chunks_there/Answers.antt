@@ -1,7 +1,6 @@
 use mathlib.Core.Path.{sym}
 use native.Mathlib.Omega.{arith}
 use Rattle.manager.proofs.ListLaws.{chunks_none, chunks_fit, chunks_outside}
-use borrow.Author.Rules.{rules}
 use Rattle.manager.proofs.chunks.chunks_there.Goals as goal
 
 pub returns-then-count-eq0 : goal.returns-then-count-eq0

@@ -1,6 +1,5 @@
 use Rattle.manager.proofs.Laws.{placed_length}
 use Rattle.manager.proofs.ListLaws.{list_read}
-use borrow.Author.Rules.{rules}
 use Rattle.manager.proofs.lists.indices_there.Goals as goal
 
 pub returns : goal.returns

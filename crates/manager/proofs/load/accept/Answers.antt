@@ -3,7 +3,6 @@ use mathlib.Core.Path.{sym, ◌∙◌}
 use native.Mathlib.Omega.{arith}
 use Rattle.manager.proofs.LoadLaws.{accepted_bad, accepted_short, accepted_given}
 use Rattle.manager.proofs.Laws.{placed_length}
-use borrow.Author.Rules.{rules}
 use mathlib.Core.Path.{ap}
 use mathlib.Core.Bool.{not}
 use Rattle.manager.proofs.load.accept.Goals as goal

@@ -1,7 +1,6 @@
 use native.Mathlib.Omega.{arith}
 use Rattle.manager.specs.clauses.Place.{address_in}
 use Rattle.manager.proofs.LoadLaws.{goes_below, goes_past_sum, goes_past_end, goes_past, goes_there}
-use borrow.Author.Rules.{rules}
 use Rattle.manager.proofs.load.block_there.Goals as goal
 
 pub returns-then-at-manager : goal.returns-then-at-manager

@@ -1,10 +1,7 @@
-use Rattle.manager.proofs.LoadLaws.{Left, left_first, left_more, left_refused, left_done, where_there}
+use Rattle.manager.proofs.LoadLaws.{Left}
 use Prim.Native.Nat.{ℕ, ◌-◌, ◌≤◌, ◌<◌}
 use mathlib.Core.Path.{◌≡◌}
 use mathlib.Core.List.{List}
-use native.Mathlib.Omega.{arith}
-use borrow.Author.Rules.{rules}
-use borrow.Author.Count.{below_more}
 use Rattle.checkpoint.specs.declared.Mapping.{Mapping}
 use Rattle.manager.specs.clauses.Place.{place_of, address_in}
 use Rattle.manager.proofs.load.blocks_there.Given as goal

@@ -1,6 +1,5 @@
 use mathlib.Core.Path.{◌∙◌}
 use Rattle.manager.proofs.LoadLaws.{by_mapping, by_nothing}
-use borrow.Author.Rules.{rules}
 use Rattle.manager.proofs.load.load.Goals as goal
 
 pub returns-in-To : goal.returns-in-To

@@ -1,7 +1,6 @@
 use Prim.Native.Nat.{◌-◌}
 use native.Mathlib.Omega.{arith}
 use Rattle.manager.proofs.LoadLaws.{rest_words, piece_cut}
-use borrow.Author.Rules.{rules}
 use Rattle.manager.proofs.load.piece_at.Goals as goal
 
 pub overflow_sub-room : goal.overflow_sub-room

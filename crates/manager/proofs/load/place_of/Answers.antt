@@ -1,5 +1,4 @@
 use Rattle.manager.proofs.LoadLaws.{place_read}
-use borrow.Author.Rules.{rules}
 use Rattle.manager.proofs.load.place_of.Goals as goal
 
 pub returns : goal.returns

@@ -1,12 +1,11 @@
-use Prim.Native.Nat.{◌+◌, ◌-◌, ◌%◌, ◌≤◌}
-use mathlib.Core.Path.{◌≡◌, refl, ◌∙◌}
-use lib.ListN.{length, drop}
+use Prim.Native.Nat.{◌+◌, ◌≤◌}
+use mathlib.Core.Path.{refl, ◌∙◌}
+use lib.ListN.{length}
 use Rattle.blocks.specs.Blocks.{block_of}
 use native.Mathlib.Omega.{arith}
 use borrow.Author.Rules.{rules}
-use Rattle.fletcher.specs.Fletcher.{fletcher, checksum}
+use Rattle.fletcher.specs.Fletcher.{checksum}
 use Rattle.manager.proofs.Laws.{placed_length}
-use Rattle.manager.specs.clauses.Place.{bytes_of}
 use Rattle.manager.proofs.LoadLaws.{sums_more, sums_done}
 use Rattle.manager.proofs.load.sums_of.Goals.{After-add-sums}
 use Rattle.manager.proofs.load.sums_of.Goals as goal

@@ -1,13 +1,8 @@
-use Prim.Native.Nat.{◌+◌, ◌-◌, ◌%◌, ◌≤◌}
-use mathlib.Core.Path.{◌≡◌, refl, ◌∙◌}
-use lib.ListN.{length, drop}
-use Rattle.blocks.specs.Blocks.{block_of}
-use native.Mathlib.Omega.{arith}
-use borrow.Author.Rules.{rules}
+use Prim.Native.Nat.{◌-◌, ◌%◌, ◌≤◌}
+use mathlib.Core.Path.{◌≡◌}
+use lib.ListN.{drop}
 use Rattle.fletcher.specs.Fletcher.{fletcher, checksum}
-use Rattle.manager.proofs.Laws.{placed_length}
 use Rattle.manager.specs.clauses.Place.{bytes_of}
-use Rattle.manager.proofs.LoadLaws.{sums_more, sums_done}
 use Rattle.manager.proofs.load.sums_of.Given as goal
 
 abbrev pub invariant-loop-pos : goal.invariant-loop-pos

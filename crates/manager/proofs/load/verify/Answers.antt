@@ -3,7 +3,6 @@ use lib.Dec.{eqb}
 use native.Mathlib.Omega.{arith}
 use Rattle.fletcher.proofs.Laws.{verifies_short, verifies_uneven, verifies_whole}
 use Rattle.manager.proofs.Laws.{placed_length}
-use borrow.Author.Rules.{rules}
 use Rattle.manager.proofs.load.verify.Goals as goal
 
 pub returns-then-manager-lt-LEAST_OBJECT : goal.returns-then-manager-lt-LEAST_OBJECT

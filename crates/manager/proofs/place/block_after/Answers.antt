@@ -1,7 +1,6 @@
 use native.Mathlib.Omega.{arith}
 use mathlib.Core.Path.{◌∙◌}
 use Rattle.manager.proofs.Laws.{block_past}
-use borrow.Author.Rules.{rules}
 use Rattle.manager.proofs.place.block_after.Goals as goal
 
 pub returns-then-base-index : goal.returns-then-base-index

@@ -1,10 +1,8 @@
 use mathlib.Core.Path.{◌≡◌, sym, ◌∙◌}
-use Prim.Native.Nat.{◌+◌, ◌-◌, ◌*◌, ◌^◌, ◌≤◌, ◌<◌}
 use native.Mathlib.Omega.{arith}
 use native.Mathlib.Nat.{sub_self, sub-zero, add-zero}
 use borrow.Author.Rules.{rules}
 use Rattle.manager.specs.clauses.Place.{bytes_of}
-use Rattle.fields.specs.Fields.{num}
 use Rattle.fields.proofs.Laws.{num_more, num_none}
 use Rattle.manager.proofs.Laws.{more_fits, room}
 use Rattle.manager.proofs.place.number_across.Goals as goal

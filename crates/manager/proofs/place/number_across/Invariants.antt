@@ -1,12 +1,7 @@
-use mathlib.Core.Path.{◌≡◌, sym, ◌∙◌}
+use mathlib.Core.Path.{◌≡◌}
 use Prim.Native.Nat.{◌+◌, ◌-◌, ◌*◌, ◌^◌, ◌≤◌, ◌<◌}
-use native.Mathlib.Omega.{arith}
-use native.Mathlib.Nat.{sub_self, sub-zero, add-zero}
-use borrow.Author.Rules.{rules}
 use Rattle.manager.specs.clauses.Place.{bytes_of}
 use Rattle.fields.specs.Fields.{num}
-use Rattle.fields.proofs.Laws.{num_more, num_none}
-use Rattle.manager.proofs.Laws.{more_fits, room}
 use Rattle.manager.proofs.place.number_across.Given as goal
 
 abbrev pub invariant-loop-k : goal.invariant-loop-k

@@ -1,6 +1,5 @@
 use mathlib.Core.Path.{sym}
 use native.Mathlib.Nat.{mod-eq_of_lt}
-use borrow.Author.Rules.{rules}
 use Rattle.manager.proofs.place.remainder.Goals as goal
 
 pub returns-then-number-divisor : goal.returns-then-number-divisor

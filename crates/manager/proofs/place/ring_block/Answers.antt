@@ -1,6 +1,5 @@
 use Rattle.manager.specs.clauses.Place.{address_in}
 use mathlib.Core.Path.{◌∙◌}
-use borrow.Author.Rules.{rules}
 use Rattle.manager.proofs.place.ring_block.Goals as goal
 
 pub returns : goal.returns

@@ -1,6 +1,5 @@
 use mathlib.Core.Path.{◌∙◌}
 use Rattle.manager.proofs.Laws.{ring_fits, ring_below, ring_sum}
-use borrow.Author.Rules.{rules}
 use Rattle.manager.proofs.place.ring_index.Goals as goal
 
 pub returns-then-at-manager : goal.returns-then-at-manager

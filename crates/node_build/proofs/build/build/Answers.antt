@@ -1,6 +1,5 @@
 use Rattle.node_build.proofs.RegionLaws.{build_unformed, build_formed, weighs_there, weighs_outside}
 use mathlib.Core.Path.{◌∙◌}
-use borrow.Author.Rules.{rules}
 use Rattle.node_build.proofs.build.build.Goals as goal
 
 pub build_formed-requires : goal.build_formed-requires

@@ -1,5 +1,4 @@
 use Rattle.node_build.proofs.RegionLaws.{sealed_is}
-use borrow.Author.Rules.{rules}
 use Rattle.node_build.proofs.build.seal.Goals as goal
 
 pub returns : goal.returns

@@ -1,6 +1,5 @@
 use Rattle.node_build.proofs.RegionLaws.{pieces_are}
 use native.Mathlib.Omega.{arith}
-use borrow.Author.Rules.{rules}
 use Rattle.node_build.proofs.layout.fixed_slots.Goals as goal
 
 pub returns : goal.returns

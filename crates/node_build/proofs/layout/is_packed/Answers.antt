@@ -1,5 +1,4 @@
 use Rattle.node_build.proofs.RegionLaws.{packed_is}
-use borrow.Author.Rules.{rules}
 use Rattle.node_build.proofs.layout.is_packed.Goals as goal
 
 pub returns : goal.returns

@@ -1,6 +1,5 @@
 use Rattle.node_build.specs.Build.{slots}
 use mathlib.Core.Path.{refl, ap, ◌∙◌}
-use borrow.Author.Rules.{rules}
 use Rattle.node_build.proofs.layout.lay_out.Goals as goal
 
 pub returns : goal.returns

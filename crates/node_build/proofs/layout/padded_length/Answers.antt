@@ -1,6 +1,5 @@
 use Rattle.node_build.proofs.RegionLaws.{padded_packed, padded_eights}
 use native.Mathlib.Omega.{arith}
-use borrow.Author.Rules.{rules}
 use Rattle.node_build.proofs.layout.padded_length.Goals as goal
 
 pub returns-then-packed : goal.returns-then-packed

@@ -1,6 +1,5 @@
 use native.Mathlib.Nat.{div-le_self}
 use mathlib.Core.Path.{refl}
-use borrow.Author.Rules.{rules}
 use Rattle.node_build.proofs.layout.pieces.Goals as goal
 
 pub returns : goal.returns

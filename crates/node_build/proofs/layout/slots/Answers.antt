@@ -1,6 +1,5 @@
 use Rattle.node_build.proofs.RegionLaws.{slots_fixed, slots_variable}
 use native.Mathlib.Omega.{arith}
-use borrow.Author.Rules.{rules}
 use Rattle.node_build.proofs.layout.slots.Goals as goal
 
 pub returns-in-Fixed : goal.returns-in-Fixed

@@ -1,6 +1,5 @@
 use Rattle.node_build.proofs.RegionLaws.{space_root, space_other}
 use native.Mathlib.Omega.{arith}
-use borrow.Author.Rules.{rules}
 use Rattle.node_build.proofs.layout.space.Goals as goal
 
 pub returns-then-root : goal.returns-then-root

@@ -1,7 +1,6 @@
 use Rattle.node_build.proofs.RegionLaws.{width_fixed, width_variable}
 use Prim.Native.Nat.{◌*◌}
 use mathlib.Core.Path.{sym, ap}
-use borrow.Author.Rules.{rules}
 use Rattle.node_build.proofs.layout.table_length.Goals as goal
 
 pub returns-in-Fixed : goal.returns-in-Fixed

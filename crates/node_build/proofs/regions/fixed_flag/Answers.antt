@@ -1,7 +1,6 @@
 use Rattle.node_build.proofs.RegionLaws.{flag_fixed, flag_variable}
 use native.Mathlib.Omega.{arith}
 use mathlib.Core.Path.{sym}
-use borrow.Author.Rules.{rules}
 use Rattle.node_build.proofs.regions.fixed_flag.Goals as goal
 
 pub returns-in-Fixed : goal.returns-in-Fixed

@@ -1,5 +1,4 @@
 use Rattle.node_build.proofs.RegionLaws.{flags_are}
-use borrow.Author.Rules.{rules}
 use Rattle.node_build.proofs.regions.flags.Goals as goal
 
 pub returns : goal.returns

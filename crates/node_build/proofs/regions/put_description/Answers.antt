@@ -1,7 +1,6 @@
 use Rattle.node_build.proofs.RegionLaws.{wrote_as, described_root, described_other, description_length_lem, wrote_none}
 use native.Mathlib.Omega.{arith}
 use mathlib.Core.Path.{◌∙◌}
-use borrow.Author.Rules.{rules}
 use Rattle.node_build.proofs.regions.put_description.Goals as goal
 
 pub put_bytes-requires : goal.put_bytes-requires

@@ -3,7 +3,6 @@ use Rattle.writers.proofs.Laws.{wrote_then}
 use native.Mathlib.Omega.{arith}
 use mathlib.Core.Path.{ap}
 use Rattle.node_build.specs.Build.{areas}
-use borrow.Author.Rules.{rules}
 use Rattle.node_build.proofs.regions.put_headers.Goals as goal
 
 pub returns : goal.returns

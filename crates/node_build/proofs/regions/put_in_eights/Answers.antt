@@ -3,7 +3,6 @@ use native.Mathlib.Omega.{arith}
 use Prim.Native.Nat.{◌+◌}
 use lib.ListN.{length}
 use mathlib.Core.Path.{ap}
-use borrow.Author.Rules.{rules}
 use Rattle.node_build.proofs.regions.put_in_eights.Goals as goal
 
 pub returns-then-n-eq0 : goal.returns-then-n-eq0

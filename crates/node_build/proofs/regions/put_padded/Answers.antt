@@ -3,7 +3,6 @@ use native.Mathlib.Omega.{arith}
 use lib.ListN.{length}
 use mathlib.Core.Path.{ap, sym}
 use Rattle.node_build.specs.Build.{padded}
-use borrow.Author.Rules.{rules}
 use Rattle.node_build.proofs.regions.put_padded.Goals as goal
 
 pub put_bytes-requires : goal.put_bytes-requires

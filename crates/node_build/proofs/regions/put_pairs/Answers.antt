@@ -1,10 +1,7 @@
 use Rattle.writers.proofs.Laws.{wrote_length}
-use Rattle.node_build.proofs.Laws.{Pairing, pairing_from, pairing_more, pairing_done, key_there, value_there, key_room, value_low, value_room}
-use lib.ListN.{length}
+use Rattle.node_build.proofs.Laws.{pairing_from, pairing_more, pairing_done, key_there, value_there, key_room, value_low, value_room}
 use native.Mathlib.Omega.{arith}
-use Prim.Native.Nat.{◌-◌}
 use mathlib.Core.Path.{refl}
-use borrow.Author.Rules.{rules}
 use Rattle.node_build.proofs.regions.put_pairs.Goals as goal
 
 pub loop-i-init : goal.loop-i-init

@@ -1,10 +1,6 @@
-use Rattle.writers.proofs.Laws.{wrote_length}
-use Rattle.node_build.proofs.Laws.{Pairing, pairing_from, pairing_more, pairing_done, key_there, value_there, key_room, value_low, value_room}
+use Rattle.node_build.proofs.Laws.{Pairing}
 use lib.ListN.{length}
-use native.Mathlib.Omega.{arith}
 use Prim.Native.Nat.{◌-◌}
-use mathlib.Core.Path.{refl}
-use borrow.Author.Rules.{rules}
 use Rattle.node_build.proofs.regions.put_pairs.Given as goal
 
 abbrev pub invariant-loop-i : goal.invariant-loop-i

@@ -1,7 +1,6 @@
 use Rattle.node_build.proofs.RegionLaws.{wrote_as, shape_is}
 use Rattle.writers.proofs.Laws.{wrote_then}
 use native.Mathlib.Omega.{arith}
-use borrow.Author.Rules.{rules}
 use Rattle.node_build.proofs.regions.put_shape.Goals as goal
 
 pub returns : goal.returns

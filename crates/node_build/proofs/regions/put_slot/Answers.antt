@@ -1,7 +1,6 @@
 use Rattle.node_build.proofs.RegionLaws.{wrote_as, width_fixed, width_variable, slot_fixed, slot_variable}
 use Rattle.writers.proofs.Laws.{wrote_then}
 use native.Mathlib.Omega.{arith}
-use borrow.Author.Rules.{rules}
 use Rattle.node_build.proofs.regions.put_slot.Goals as goal
 
 pub put-value-requires : goal.put-value-requires

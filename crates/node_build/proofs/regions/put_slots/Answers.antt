@@ -1,9 +1,7 @@
 use Rattle.node_build.specs.Build.{padded_length}
-use Rattle.node_build.proofs.Laws.{Slotting, slotting_from, slotting_more, slotting_small, slotting_done, slotting_reached, slot_room}
-use lib.ListN.{length}
-use borrow.Author.Rules.{rules}
+use Rattle.node_build.proofs.Laws.{slotting_from, slotting_more, slotting_small, slotting_done, slotting_reached, slot_room}
 use native.Mathlib.Omega.{arith}
-use Prim.Native.Nat.{◌+◌, ◌-◌}
+use Prim.Native.Nat.{◌+◌}
 use mathlib.Core.Path.{ap, ◌∙◌}
 use Rattle.node_build.proofs.regions.put_slots.Goals as goal
 

@@ -1,10 +1,6 @@
-use Rattle.node_build.specs.Build.{padded_length}
-use Rattle.node_build.proofs.Laws.{Slotting, slotting_from, slotting_more, slotting_small, slotting_done, slotting_reached, slot_room}
+use Rattle.node_build.proofs.Laws.{Slotting}
 use lib.ListN.{length}
-use borrow.Author.Rules.{rules}
-use native.Mathlib.Omega.{arith}
-use Prim.Native.Nat.{◌+◌, ◌-◌}
-use mathlib.Core.Path.{ap, ◌∙◌}
+use Prim.Native.Nat.{◌-◌}
 use Rattle.node_build.proofs.regions.put_slots.Given as goal
 
 abbrev pub invariant-loop-i : goal.invariant-loop-i

@@ -3,7 +3,6 @@ use Rattle.node_build.proofs.Laws.{slots_inside, table_put}
 use native.Mathlib.Omega.{arith}
 use Prim.Native.Nat.{◌+◌, ◌-◌}
 use mathlib.Core.Path.{ap}
-use borrow.Author.Rules.{rules}
 use Rattle.node_build.proofs.regions.put_table.Goals as goal
 
 pub put_slots-end-requires : goal.put_slots-end-requires

@@ -1,10 +1,6 @@
-use Rattle.node_build.proofs.Laws.{Measuring, measuring_from, measuring_more, measuring_short, measuring_done}
-use Rattle.node_build.specs.Build.{padded_length}
+use Rattle.node_build.proofs.Laws.{Measuring}
 use lib.ListN.{length}
-use native.Mathlib.Omega.{arith}
 use Prim.Native.Nat.{◌-◌}
-use mathlib.Core.Path.{ap, ◌∙◌}
-use borrow.Author.Rules.{rules}
 use Rattle.node_build.proofs.request.measure.Given as goal
 
 abbrev pub invariant-loop-i : goal.invariant-loop-i

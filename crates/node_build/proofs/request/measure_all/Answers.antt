@@ -1,7 +1,6 @@
 use Rattle.node_build.proofs.RegionLaws.{formed_short, formed_odd, weighs_all}
 use native.Mathlib.Omega.{arith}
 use mathlib.Core.Path.{sym}
-use borrow.Author.Rules.{rules}
 use Rattle.node_build.proofs.request.measure_all.Goals as goal
 
 pub returns-then-info-lt-DESCRIPTION : goal.returns-then-info-lt-DESCRIPTION

@@ -1,6 +1,5 @@
 use Rattle.nodes.proofs.Laws.{room_there, room_missing, part_given, part_refused}
 use mathlib.Core.Path.{sym}
-use borrow.Author.Rules.{rules}
 use mathlib.Core.Path.{ap}
 use mathlib.Core.Bool.{not}
 use Rattle.nodes.proofs.entries.cut.Goals as goal

@@ -1,7 +1,6 @@
 use Rattle.nodes.specs.clauses.Answers.{slot_as, part_as, value_as}
 use Rattle.nodes.proofs.Laws.{entry_no_slot, entry_no_key, entry_no_value, entry_given}
 use mathlib.Core.Path.{sym, ap, ◌∙◌}
-use borrow.Author.Rules.{rules}
 use Rattle.nodes.proofs.entries.entry.Goals as goal
 
 pub returns-in-Refused : goal.returns-in-Refused

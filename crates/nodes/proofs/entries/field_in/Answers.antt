@@ -1,6 +1,5 @@
 use Rattle.nodes.proofs.Laws.{field_value, field_none}
 use mathlib.Core.Path.{sym}
-use borrow.Author.Rules.{rules}
 use Rattle.nodes.proofs.entries.field_in.Goals as goal
 
 pub returns-in-Value : goal.returns-in-Value

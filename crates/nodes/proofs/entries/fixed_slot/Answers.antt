@@ -1,7 +1,6 @@
 use Rattle.nodes.proofs.Laws.{room_there, room_missing, fixed_outside, fixed_given}
 use native.Mathlib.Omega.{arith}
 use mathlib.Core.Path.{sym, refl}
-use borrow.Author.Rules.{rules}
 use mathlib.Core.Path.{ap}
 use mathlib.Core.Bool.{not}
 use Rattle.nodes.proofs.entries.fixed_slot.Goals as goal

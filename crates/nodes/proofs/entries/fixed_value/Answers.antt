@@ -1,5 +1,4 @@
 use mathlib.Core.Path.{sym, ◌∙◌}
-use borrow.Author.Rules.{rules}
 use Rattle.nodes.proofs.entries.fixed_value.Goals as goal
 
 pub returns-then-is_leaf : goal.returns-then-is_leaf

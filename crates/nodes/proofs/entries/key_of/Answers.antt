@@ -1,7 +1,6 @@
 use Rattle.nodes.proofs.Laws.{part_refused}
 use native.Mathlib.Omega.{arith}
 use mathlib.Core.Path.{sym}
-use borrow.Author.Rules.{rules}
 use Rattle.nodes.proofs.entries.key_of.Goals as goal
 
 pub returns-then-node-slot : goal.returns-then-node-slot

@@ -1,6 +1,5 @@
 use Rattle.nodes.proofs.Laws.{pointer_ghost, pointer_field}
 use mathlib.Core.Path.{sym, ◌∙◌}
-use borrow.Author.Rules.{rules}
 use Rattle.nodes.proofs.entries.pointer.Goals as goal
 
 pub returns-in-Ghost : goal.returns-in-Ghost

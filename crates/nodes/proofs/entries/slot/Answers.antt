@@ -1,7 +1,6 @@
 use Rattle.nodes.proofs.Laws.{slot_fixed, slot_variable, slot_fixed_past, slot_variable_past}
 use native.Mathlib.Omega.{arith}
 use mathlib.Core.Path.{sym, ◌∙◌}
-use borrow.Author.Rules.{rules}
 use Rattle.nodes.proofs.entries.slot.Goals as goal
 
 pub returns-then-n-index : goal.returns-then-n-index

@@ -2,7 +2,6 @@ use Rattle.nodes.specs.clauses.Answers.{part_as}
 use Rattle.nodes.proofs.Laws.{value_ghost, value_before, value_refused, value_given}
 use native.Mathlib.Omega.{arith}
 use mathlib.Core.Path.{sym, ap, ◌∙◌}
-use borrow.Author.Rules.{rules}
 use Rattle.nodes.proofs.entries.value_of.Goals as goal
 
 pub returns-then-slot-eq-GHOST : goal.returns-then-slot-eq-GHOST

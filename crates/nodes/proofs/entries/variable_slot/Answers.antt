@@ -1,7 +1,6 @@
 use Rattle.nodes.proofs.Laws.{room_there, room_missing, variable_outside, variable_given}
 use native.Mathlib.Omega.{arith}
 use mathlib.Core.Path.{sym}
-use borrow.Author.Rules.{rules}
 use mathlib.Core.Path.{ap}
 use mathlib.Core.Bool.{not}
 use Rattle.nodes.proofs.entries.variable_slot.Goals as goal

@@ -1,7 +1,6 @@
 use Rattle.nodes.proofs.Laws.{describe_other, describe_root}
 use borrow.Author.Tests.{not-true, not-false}
 use mathlib.Core.Path.{sym, ◌∙◌}
-use borrow.Author.Rules.{rules}
 use mathlib.Core.Path.{ap}
 use mathlib.Core.Bool.{not}
 use Rattle.nodes.proofs.node.describe.Goals as goal

@@ -1,5 +1,4 @@
 use Rattle.nodes.proofs.Laws.{first_kind, other_kind}
-use borrow.Author.Rules.{rules}
 use Rattle.nodes.proofs.node.is_node.Goals as goal
 
 pub returns-then-kind-eq-ROOT_NODE : goal.returns-then-kind-eq-ROOT_NODE

@@ -1,7 +1,6 @@
 use Rattle.nodes.proofs.Laws.{and_both, and_first}
 use mathlib.Core.Bool.{not}
 use mathlib.Core.Path.{sym, ap, ◌∙◌}
-use borrow.Author.Rules.{rules}
 use Rattle.nodes.proofs.node.is_plain.Goals as goal
 
 pub returns-then-is_node : goal.returns-then-is_node

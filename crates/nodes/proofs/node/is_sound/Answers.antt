@@ -1,5 +1,4 @@
 use Rattle.nodes.proofs.Laws.{bound_held, bound_passed}
-use borrow.Author.Rules.{rules}
 use Rattle.nodes.proofs.node.is_sound.Goals as goal
 
 pub returns-then-keys_at-value_end : goal.returns-then-keys_at-value_end

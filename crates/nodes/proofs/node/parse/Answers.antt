@@ -1,7 +1,6 @@
 use Rattle.nodes.proofs.Laws.{parse_kind, parse_bad, parse_given}
 use borrow.Author.Tests.{not-true, not-false}
 use mathlib.Core.Path.{sym, ◌∙◌}
-use borrow.Author.Rules.{rules}
 use mathlib.Core.Path.{ap}
 use mathlib.Core.Bool.{not}
 use Rattle.nodes.proofs.node.parse.Goals as goal

@@ -1,6 +1,5 @@
 use Rattle.nodes.proofs.Laws.{seen_refused, node_refused, node_parsed}
 use mathlib.Core.Path.{sym}
-use borrow.Author.Rules.{rules}
 use Rattle.nodes.proofs.node.read_node.Goals as goal
 
 pub returns-in-Refused : goal.returns-in-Refused

@@ -1,7 +1,6 @@
 use native.Mathlib.Omega.{arith}
 use Rattle.nodes.proofs.Laws.{value_end_root, value_end_other}
 use mathlib.Core.Path.{sym, ◌∙◌}
-use borrow.Author.Rules.{rules}
 use Rattle.nodes.proofs.node.value_end.Goals as goal
 
 pub returns-then-is_root : goal.returns-then-is_root

@@ -2,7 +2,6 @@ use Rattle.nodes.specs.clauses.Answers.{description_as}
 use borrow.Author.Tests.{not-true, not-false}
 use Rattle.nodes.proofs.Laws.{tree_undescribed, tree_other, tree_described}
 use mathlib.Core.Path.{sym, ap, ◌∙◌}
-use borrow.Author.Rules.{rules}
 use mathlib.Core.Bool.{not}
 use Rattle.nodes.proofs.object_map.describe_map.Goals as goal
 

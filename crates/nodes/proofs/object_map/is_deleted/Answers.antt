@@ -2,7 +2,6 @@ use Rattle.fields.specs.Fields.{num, bit}
 use mathlib.Core.Path.{ap, ◌∙◌}
 use mathlib.Core.List.{List}
 use Prim.Native.Nat.{ℕ}
-use borrow.Author.Rules.{rules}
 use Rattle.nodes.proofs.object_map.is_deleted.Goals as goal
 
 pub returns : goal.returns

@@ -2,7 +2,6 @@ use Rattle.nodes.specs.clauses.Answers.{description_as}
 use Rattle.blocks.specs.clauses.Answers.{address_as}
 use Rattle.nodes.proofs.Laws.{seen_refused, load_unread, load_no_node, load_no_tree, load_given}
 use mathlib.Core.Path.{sym, ap, ◌∙◌}
-use borrow.Author.Rules.{rules}
 use Rattle.nodes.proofs.object_map.load_object_map.Goals as goal
 
 pub returns-in-Refused : goal.returns-in-Refused

@@ -1,6 +1,5 @@
 use Rattle.nodes.proofs.Laws.{seen_refused, map_unread, map_kind, map_stored, map_root}
 use mathlib.Core.Path.{sym}
-use borrow.Author.Rules.{rules}
 use Rattle.nodes.proofs.object_map.read_object_map.Goals as goal
 
 pub returns-then-kind-ne-OBJECT_MAP : goal.returns-then-kind-ne-OBJECT_MAP

@@ -1,4 +1,3 @@
-use Rattle.std.proofs.Common.{rules}
 use Rattle.report.specs.Report.{refusal}
 use Rattle.report.proofs.answers.refusal.Goals as goal
 

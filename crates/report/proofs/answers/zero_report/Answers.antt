@@ -1,4 +1,3 @@
-use Rattle.std.proofs.Common.{rules}
 use Rattle.report.specs.Report.{zero_report}
 use Rattle.report.proofs.answers.zero_report.Goals as goal
 

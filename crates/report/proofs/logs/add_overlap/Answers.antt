@@ -1,4 +1,4 @@
-use Rattle.std.proofs.Common.{sym, ◌∙◌, ⊎_elim, rules}
+use Rattle.std.proofs.Common.{sym, ◌∙◌}
 use Rattle.report.proofs.Laws.{note_room, note_full, overlap_more, overlap_refused}
 use Rattle.report.proofs.logs.add_overlap.Goals.{then-overlaps-2, else-overlaps-2}
 use Rattle.report.proofs.logs.add_overlap.Goals as goal

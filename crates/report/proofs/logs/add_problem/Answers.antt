@@ -1,4 +1,4 @@
-use Rattle.std.proofs.Common.{⊎_elim, rules}
+use Rattle.std.proofs.Common.{rules}
 use Rattle.report.specs.Report.{add_problem}
 use Rattle.report.proofs.Laws.{note_room, note_full, count_more, count_refused}
 use Rattle.report.proofs.logs.add_problem.Goals.{then-problems-2, else-problems-2}

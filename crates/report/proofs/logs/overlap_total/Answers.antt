@@ -1,5 +1,4 @@
-use Rattle.std.proofs.Common.{◌≡◌, ◌+◌, ◌-◌, ◌^◌, ◌<◌, ◌≤◌, min, length, drop, arith, rules}
-use Rattle.report.specs.Report.{kinds, sum_of}
+use Rattle.std.proofs.Common.{◌<◌, ◌≤◌, length, arith, rules}
 use Rattle.report.proofs.Laws.{sum_done, sum_more}
 use Rattle.report.proofs.logs.overlap_total.Goals as goal
 

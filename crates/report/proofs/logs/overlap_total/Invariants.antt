@@ -1,6 +1,5 @@
-use Rattle.std.proofs.Common.{◌≡◌, ◌+◌, ◌-◌, ◌^◌, ◌<◌, ◌≤◌, min, length, drop, arith, rules}
+use Rattle.std.proofs.Common.{◌≡◌, ◌+◌, ◌-◌, ◌^◌, ◌<◌, ◌≤◌, min, drop}
 use Rattle.report.specs.Report.{kinds, sum_of}
-use Rattle.report.proofs.Laws.{sum_done, sum_more}
 use Rattle.report.proofs.logs.overlap_total.Given as goal
 
 abbrev pub invariant-loop-i : goal.invariant-loop-i

@@ -1,6 +1,6 @@
 use Rattle.report.specs.declared.Ending.{Ending}
 use Rattle.report.specs.clauses.Steps.{past_of}
-use Rattle.std.proofs.Common.{sym, ap, rules}
+use Rattle.std.proofs.Common.{sym, ap}
 use Rattle.report.proofs.steps.past.Goals as goal
 
 pub returns-in-Refused : goal.returns-in-Refused

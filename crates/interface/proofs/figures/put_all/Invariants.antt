@@ -1,0 +1,14 @@
+use mathlib.Core.Path.{◌≡◌, refl, ◌∙◌}
+use Prim.Native.Nat.{◌+◌, ◌-◌, ◌≤◌, ◌<◌}
+use native.Mathlib.Nat.{add-zero}
+use Rattle.interface.proofs.Laws.{same_stores, number_stored, numbers_stored}
+use lib.ListN.{length, drop}
+use Rattle.interface.specs.clauses.Stored.{stored}
+use borrow.Author.Rules.{rules}
+use Rattle.interface.proofs.figures.put_all.Given as goal
+
+abbrev pub invariant-loop-i : goal.invariant-loop-i
+invariant-loop-i l = (l.i ≤ length l.xs) × (stored l.figures (l.at + l.i) (drop l.i l.xs) ≡ stored l.initial.figures l.at l.xs)
+
+abbrev pub decreases-loop-i : goal.decreases-loop-i
+decreases-loop-i l = length l.xs - l.i
