@@ -2,16 +2,15 @@
 use mathlib.Core.Path.{◌≡◌, refl, sym, ap, ◌∙◌}
 use mathlib.Core.Bool.{Bool, true, false, not, ◌||◌}
 use mathlib.Core.List.{List}
-use Prim.Native.Nat.{ℕ, zero, suc, ◌+◌, ◌-◌, ◌≤◌, ◌<◌, min}
+use Prim.Native.Nat.{ℕ, zero, suc, ◌+◌, ◌-◌, ◌≤◌, min}
 use native.Mathlib.Omega.{arith}
 use lib.Dec.{leb, eqb}
 use lib.ListN.{length, take, drop, replicate, length-replicate, length-append, length-drop}
 use lib.Seq.{drop_at}
-use Rattle.fields.specs.Choice.{pick}
 use Rattle.fields.specs.Fields.{bit}
 use Rattle.fields.specs.Header.{xid_of}
 use Rattle.blocks.specs.Blocks.{block_of}
-use Rattle.blocks.specs.Reads.{Reads, done, no_blocks, Outcome, given, refused, run, ◌>>=◌, need}
+use Rattle.blocks.specs.Reads.{done, no_blocks, Outcome, given, refused, run, ◌>>=◌, need}
 use Rattle.blocks.specs.Refusals.{number_of}
 use Rattle.blocks.specs.clauses.Images.{Holds}
 use Rattle.blocks.specs.declared.Address.{Address}

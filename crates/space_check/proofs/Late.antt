@@ -24,14 +24,13 @@ use Rattle.nodes.specs.Scan.{look_at, pointer_past, one_below, leaf_from, index_
 use Rattle.nodes.specs.Walk.{Walked, children_from, next_node, each, walk_below, walk, children_of}
 use Rattle.nodes.specs.declared.Description.{Description}
 use Rattle.nodes.specs.declared.Slot.{Slot}
-use Rattle.checkpoint.specs.Checkpoint.{Taken}
 use Rattle.checkpoint.specs.declared.Mapping.{Mapping}
 use Rattle.checkpoint.specs.declared.Mapped.{Mapped}
 use Rattle.checkpoint.specs.declared.Mapped.TheVariants.{To, Nowhere}
 use Rattle.manager.specs.Manager.{manager_from, manager_at, manager_by, manager, list_from, accepted}
 use Rattle.manager.specs.Chunks.{chunks_from}
 use Rattle.manager.specs.declared.Chunk.{Chunk}
-use Rattle.block_map.specs.BlockMap.{Marked, update, marked, owner_of}
+use Rattle.block_map.specs.BlockMap.{Marked, owner_of}
 use Rattle.report.specs.Report.{add_problem, add_overlap}
 use Rattle.report.specs.declared.Problem.{Problem}
 use Rattle.report.specs.declared.ProblemLog.{ProblemLog}

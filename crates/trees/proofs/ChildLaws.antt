@@ -5,7 +5,7 @@ use mathlib.Core.Logic.{◌≢◌}
 use Prim.Native.Nat.{ℕ, zero, suc, ◌+◌, ◌<◌}
 use native.Mathlib.Omega.{arith}
 use borrow.Author.Tests.{eq-eqb, ne_eqb, eqb-true}
-use Rattle.blocks.specs.Reads.{Reads, given, refused, run, no_blocks, ◌>>=◌}
+use Rattle.blocks.specs.Reads.{Reads, given, refused, run, no_blocks}
 use Rattle.blocks.proofs.Laws.{then_given, then_refused, need_true, need_false, need_held, both}
 use Rattle.blocks.specs.declared.Refusal.{Refusal}
 use Rattle.blocks.specs.declared.Refusal.TheVariants.{WrongLevel}

@@ -19,7 +19,7 @@ use Rattle.audit.specs.declared.Audit.{Audit}
 use Rattle.claims.specs.clauses.Answers.{claiming_mapping, claiming_queued}
 use Rattle.claims.specs.clauses.Unlogged.{unlogged_mapping, unlogged_queued}
 use Rattle.trees.specs.clauses.Answers.{figured, leaf_of}
-use Rattle.trees.specs.clauses.Visits.{visit_for, tree_visit, tree_child, unlogged_for}
+use Rattle.trees.specs.clauses.Visits.{visit_for, tree_visit, unlogged_for}
 use Rattle.trees.specs.declared.Figures.{Figures}
 use Rattle.trees.specs.declared.Purpose.TheVariants.{PoolQueue, Mappings, MainQueue}
 use Rattle.trees.specs.declared.Tree.{Tree}

@@ -1,11 +1,11 @@
 -- Laws of the volumes' claims: what each step gives, by the way that its tests go.
 use mathlib.Core.Path.{◌≡◌, refl, sym, ap, ◌∙◌}
 use mathlib.Core.List.{List, [], ◌∷◌, ◌++◌}
-use Prim.Native.Nat.{ℕ, zero, suc, ◌+◌, ◌-◌, ◌≤◌, ◌<◌}
+use Prim.Native.Nat.{ℕ, zero, suc, ◌+◌, ◌-◌, ◌<◌}
 use native.Mathlib.Omega.{arith}
 use borrow.Author.Tests.{eq-eqb, ne_eqb, lt-ltb, le-ltb}
 use Rattle.fields.specs.Fields.{num}
-use Rattle.blocks.specs.Reads.{Reads, done, Outcome, given, refused, run, ◌>>=◌}
+use Rattle.blocks.specs.Reads.{Reads, done, given, refused, run, ◌>>=◌}
 use Rattle.blocks.specs.Blocks.{read_raw}
 use Rattle.blocks.proofs.Laws.{bind_assoc, bind_done, then_given, then_refused, need_true, need_false}
 use Rattle.blocks.specs.declared.Address.{Address}

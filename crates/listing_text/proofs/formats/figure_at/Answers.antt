@@ -1,4 +1,4 @@
-use Rattle.std.proofs.Common.{◌≤◌, length, sym, arith, rules}
+use Rattle.std.proofs.Common.{◌≤◌, length, sym, arith}
 use lib.ListN.{get_or-eq_default}
 use Rattle.listing_text.proofs.formats.figure_at.Goals as goal
 

@@ -1,4 +1,4 @@
-use Rattle.std.proofs.Common.{◌∙◌, rules}
+use Rattle.std.proofs.Common.{◌∙◌}
 use Rattle.listing_text.specs.Lines.{kind_names, kind_name}
 use Rattle.listing_text.proofs.Tables.{row_is}
 use Rattle.listing_text.proofs.Laws.{put_row}

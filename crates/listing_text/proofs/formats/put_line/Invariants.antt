@@ -1,7 +1,6 @@
-use Rattle.std.proofs.Common.{◌≡◌, ◌-◌, ◌≤◌, length, drop, refl, ◌∙◌, arith, rules}
+use Rattle.std.proofs.Common.{◌≡◌, ◌-◌, ◌≤◌, length, drop}
 use Rattle.listing_text.specs.Lines.{filled_from, filled}
 use Rattle.listing_text.specs.clauses.Writing.{up_to, put_all}
-use Rattle.listing_text.proofs.Laws.{taken_most, fill_done, fill_more}
 use Rattle.listing_text.proofs.formats.put_line.Given as goal
 
 abbrev pub invariant-loop-i : goal.invariant-loop-i

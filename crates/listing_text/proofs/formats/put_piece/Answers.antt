@@ -1,4 +1,4 @@
-use Rattle.std.proofs.Common.{arith, rules, eq-eqb, ne_eqb}
+use Rattle.std.proofs.Common.{arith, eq-eqb, ne_eqb}
 use Rattle.listing_text.specs.Lines.{piece}
 use Rattle.listing_text.proofs.Laws.{put_true, put_false}
 use Rattle.listing_text.proofs.Digits.{put_based}

@@ -1,4 +1,4 @@
-use Rattle.std.proofs.Common.{rules, eq-eqb, ne_eqb}
+use Rattle.std.proofs.Common.{eq-eqb, ne_eqb}
 use Rattle.listing_text.proofs.Laws.{put_true, put_false, one, then}
 use Rattle.listing_text.proofs.lines.bitmaps_line.Goals as goal
 

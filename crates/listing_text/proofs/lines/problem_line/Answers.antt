@@ -1,4 +1,4 @@
-use Rattle.std.proofs.Common.{rules, le-leb}
+use Rattle.std.proofs.Common.{le-leb}
 use borrow.Author.Tests.{lt-leb}
 use Rattle.listing_text.proofs.Laws.{all_true, all_false, then, one}
 use Rattle.listing_text.proofs.lines.problem_line.Goals as goal

@@ -1,4 +1,4 @@
-use Rattle.std.proofs.Common.{◌∙◌, rules}
+use Rattle.std.proofs.Common.{◌∙◌}
 use Rattle.listing_text.specs.Lines.{problem_formats, problem_format}
 use Rattle.listing_text.proofs.Tables.{row_is}
 use Rattle.listing_text.proofs.Laws.{fill_row}

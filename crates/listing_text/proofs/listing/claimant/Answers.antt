@@ -1,4 +1,4 @@
-use Rattle.std.proofs.Common.{refl, rules}
+use Rattle.std.proofs.Common.{refl}
 use Rattle.listing_text.proofs.Laws.{claimant_shown, claimant_none}
 use Rattle.listing_text.proofs.listing.claimant.Goals as goal
 

@@ -1,4 +1,4 @@
-use Rattle.std.proofs.Common.{◌≡◌, ℕ, ◌+◌, ◌-◌, ◌<◌, ◌≤◌, List, length, take, drop, sym, refl, ap, ◌∙◌, take_all, rules}
+use Rattle.std.proofs.Common.{ℕ, ◌<◌, ◌≤◌, List, length, sym, refl, ap, ◌∙◌, take_all, rules}
 use mathlib.Core.List.{flat_map}
 use Rattle.report.specs.Report.{kinds}
 use Rattle.listing_text.specs.Listing.{claimants_from, claimant_line_of}

@@ -1,9 +1,8 @@
-use Rattle.std.proofs.Common.{◌≡◌, ℕ, ◌+◌, ◌-◌, ◌<◌, ◌≤◌, List, length, take, drop, sym, refl, ap, ◌∙◌, take_all, rules}
+use Rattle.std.proofs.Common.{◌≡◌, ◌+◌, ◌-◌, ◌≤◌, length, take, drop}
 use mathlib.Core.List.{flat_map}
 use Rattle.report.specs.Report.{kinds}
 use Rattle.listing_text.specs.Listing.{claimants_from, claimant_line_of}
 use Rattle.listing_text.specs.clauses.Writing.{up_to, put_all}
-use Rattle.listing_text.proofs.Laws.{claimants_done, claimants_more}
 use Rattle.listing_text.proofs.listing.claimant_lines.Given as goal
 
 abbrev pub invariant-loop-i : goal.invariant-loop-i

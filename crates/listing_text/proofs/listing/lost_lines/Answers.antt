@@ -1,8 +1,5 @@
-use Rattle.std.proofs.Common.{◌≡◌, ◌-◌, ◌≤◌, length, drop, refl, ◌∙◌, arith, rules}
-use mathlib.Core.List.{flat_map}
-use Rattle.report.specs.Report.{kinds}
-use Rattle.listing_text.specs.Listing.{places_by_name, lost_kind_line_of}
-use Rattle.listing_text.specs.clauses.Writing.{up_to, put_all}
+use Rattle.std.proofs.Common.{refl, ◌∙◌, arith, rules}
+use Rattle.listing_text.specs.Listing.{places_by_name}
 use Rattle.listing_text.proofs.Laws.{each_done, each_more}
 use Rattle.listing_text.proofs.listing.lost_lines.Goals as goal
 

@@ -1,6 +1,4 @@
-use Rattle.std.proofs.Common.{◌≡◌, ◌-◌, ◌%◌, ◌^◌, ◌<◌, ◌≤◌, length, drop, refl, ◌∙◌, arith, rules}
-use Rattle.totals.specs.Totals.{lost_in}
-use Rattle.report.specs.Report.{kinds}
+use Rattle.std.proofs.Common.{◌<◌, ◌≤◌, length, refl, ◌∙◌, arith, rules}
 use Rattle.listing_text.proofs.Laws.{lost_more, lost_done}
 use Rattle.listing_text.proofs.listing.lost_total.Goals as goal
 

@@ -1,7 +1,6 @@
-use Rattle.std.proofs.Common.{◌≡◌, ◌-◌, ◌%◌, ◌^◌, ◌<◌, ◌≤◌, length, drop, refl, ◌∙◌, arith, rules}
+use Rattle.std.proofs.Common.{◌≡◌, ◌-◌, ◌%◌, ◌^◌, ◌<◌, ◌≤◌, drop}
 use Rattle.totals.specs.Totals.{lost_in}
 use Rattle.report.specs.Report.{kinds}
-use Rattle.listing_text.proofs.Laws.{lost_more, lost_done}
 use Rattle.listing_text.proofs.listing.lost_total.Given as goal
 
 abbrev pub invariant-loop-i : goal.invariant-loop-i

@@ -1,8 +1,6 @@
-use Rattle.std.proofs.Common.{◌≡◌, ◌-◌, ◌<◌, ◌≤◌, min, length, drop, refl, ◌∙◌, arith, rules}
-use mathlib.Core.List.{flat_map}
+use Rattle.std.proofs.Common.{◌≡◌, ◌<◌, ◌≤◌, min, length, refl, ◌∙◌, arith, rules}
 use Rattle.report.specs.Report.{logged}
-use Rattle.listing_text.specs.Listing.{named, overlap_line_of}
-use Rattle.listing_text.specs.clauses.Writing.{up_to, put_all}
+use Rattle.listing_text.specs.Listing.{overlap_line_of}
 use Rattle.listing_text.proofs.Laws.{named_done, named_more}
 use Rattle.listing_text.proofs.listing.overlap_lines.Goals as goal
 

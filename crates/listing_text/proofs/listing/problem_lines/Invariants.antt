@@ -1,9 +1,8 @@
-use Rattle.std.proofs.Common.{◌≡◌, ◌-◌, ◌<◌, ◌≤◌, min, length, drop, refl, ◌∙◌, arith, rules}
+use Rattle.std.proofs.Common.{◌≡◌, ◌-◌, ◌≤◌, min, length, drop}
 use mathlib.Core.List.{flat_map}
 use Rattle.report.specs.Report.{logged}
 use Rattle.listing_text.specs.Listing.{named, problem_line_of}
 use Rattle.listing_text.specs.clauses.Writing.{up_to, put_all}
-use Rattle.listing_text.proofs.Laws.{named_done, named_more}
 use Rattle.listing_text.proofs.listing.problem_lines.Given as goal
 
 abbrev pub invariant-loop-i : goal.invariant-loop-i

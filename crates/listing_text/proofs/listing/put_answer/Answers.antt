@@ -1,4 +1,3 @@
-use Rattle.std.proofs.Common.{rules}
 use Rattle.listing_text.proofs.Laws.{answer_done, answer_refused}
 use Rattle.listing_text.proofs.listing.put_answer.Goals as goal
 

@@ -1,7 +1,6 @@
-use Rattle.std.proofs.Common.{rules}
 use Rattle.listing_text.specs.Lines.{overlaps_line, lost_line}
 use Rattle.listing_text.specs.Listing.{overlap_line_of, report_lines}
-use Rattle.listing_text.proofs.Laws.{then, by_figure, by_total, keeps_length}
+use Rattle.listing_text.proofs.Laws.{then, by_figure, by_total}
 use Rattle.listing_text.proofs.listing.put_report.Goals as goal
 
 pub returns : goal.returns

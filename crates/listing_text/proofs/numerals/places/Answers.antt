@@ -1,6 +1,6 @@
 use native.Mathlib.Nat.{div-lt_self}
-use Rattle.std.proofs.Common.{arith, rules}
-use Rattle.listing_text.proofs.Digits.{Counted, counted_first, counted_more, counted_all}
+use Rattle.std.proofs.Common.{arith}
+use Rattle.listing_text.proofs.Digits.{counted_first, counted_more, counted_all}
 use Rattle.listing_text.proofs.numerals.places.Goals as goal
 
 pub loop-rest-init : goal.loop-rest-init

@@ -1,6 +1,4 @@
-use Rattle.std.proofs.Common.{◌≡◌, ◌≤◌, length, refl, lt_of_lt_of_le, mod-lt, arith, rules}
-use lib.Seq.{paste}
-use Rattle.listing_text.specs.Text.{digits}
+use Rattle.std.proofs.Common.{refl, lt_of_lt_of_le, mod-lt, arith, rules}
 use Rattle.listing_text.proofs.Digits.{digit_more, digits_done}
 use Rattle.listing_text.proofs.numerals.put_digits.Goals as goal
 

@@ -1,7 +1,6 @@
-use Rattle.std.proofs.Common.{◌≡◌, ◌≤◌, length, refl, lt_of_lt_of_le, mod-lt, arith, rules}
+use Rattle.std.proofs.Common.{◌≡◌, ◌≤◌, length}
 use lib.Seq.{paste}
 use Rattle.listing_text.specs.Text.{digits}
-use Rattle.listing_text.proofs.Digits.{digit_more, digits_done}
 use Rattle.listing_text.proofs.numerals.put_digits.Given as goal
 
 abbrev pub invariant-loop-left : goal.invariant-loop-left

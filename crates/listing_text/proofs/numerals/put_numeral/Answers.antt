@@ -1,4 +1,4 @@
-use Rattle.std.proofs.Common.{arith, rules}
+use Rattle.std.proofs.Common.{arith}
 use Rattle.listing_text.proofs.Laws.{put_none}
 use Rattle.listing_text.proofs.Digits.{numeral_put, numeral_none}
 use Rattle.listing_text.proofs.numerals.put_numeral.Goals as goal

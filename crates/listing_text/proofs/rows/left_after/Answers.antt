@@ -1,4 +1,4 @@
-use Rattle.std.proofs.Common.{rules, eq-eqb, ne_eqb}
+use Rattle.std.proofs.Common.{eq-eqb, ne_eqb}
 use Rattle.listing_text.specs.clauses.Tables.{left_after}
 use Rattle.listing_text.proofs.rows.left_after.Goals as goal
 

@@ -1,4 +1,3 @@
-use Rattle.std.proofs.Common.{rules}
 use Rattle.listing_text.proofs.Tables.{row_found}
 use Rattle.listing_text.proofs.rows.row.Goals as goal
 

@@ -1,5 +1,4 @@
-use Rattle.std.proofs.Common.{◌≡◌, ◌+◌, ◌-◌, ◌≤◌, length as listLength, drop, sym, zero-add, arith, rules}
-use Rattle.listing_text.specs.clauses.Tables.{row_length}
+use Rattle.std.proofs.Common.{sym, zero-add, arith, rules}
 use Rattle.listing_text.proofs.Tables.{row_past, row_ends, row_on}
 use Rattle.listing_text.proofs.rows.row_length.Goals as goal
 

@@ -1,6 +1,5 @@
-use Rattle.std.proofs.Common.{◌≡◌, ◌+◌, ◌-◌, ◌≤◌, length as listLength, drop, sym, zero-add, arith, rules}
+use Rattle.std.proofs.Common.{◌≡◌, ◌+◌, ◌-◌, ◌≤◌, length as listLength, drop}
 use Rattle.listing_text.specs.clauses.Tables.{row_length}
-use Rattle.listing_text.proofs.Tables.{row_past, row_ends, row_on}
 use Rattle.listing_text.proofs.rows.row_length.Given as goal
 
 abbrev pub invariant-loop-i : goal.invariant-loop-i

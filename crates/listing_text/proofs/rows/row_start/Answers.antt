@@ -1,5 +1,4 @@
-use Rattle.std.proofs.Common.{◌≡◌, ◌-◌, ◌≤◌, length, drop, refl, arith, rules}
-use Rattle.listing_text.specs.clauses.Tables.{rows_from}
+use Rattle.std.proofs.Common.{refl, arith, rules}
 use Rattle.listing_text.proofs.Tables.{start_found, start_past, start_on}
 use Rattle.listing_text.proofs.rows.row_start.Goals as goal
 

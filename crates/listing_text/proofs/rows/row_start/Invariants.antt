@@ -1,6 +1,5 @@
-use Rattle.std.proofs.Common.{◌≡◌, ◌-◌, ◌≤◌, length, drop, refl, arith, rules}
+use Rattle.std.proofs.Common.{◌≡◌, ◌-◌, ◌≤◌, length, drop}
 use Rattle.listing_text.specs.clauses.Tables.{rows_from}
-use Rattle.listing_text.proofs.Tables.{start_found, start_past, start_on}
 use Rattle.listing_text.proofs.rows.row_start.Given as goal
 
 abbrev pub invariant-loop-i : goal.invariant-loop-i

@@ -1,5 +1,5 @@
-use Rattle.std.proofs.Common.{◌≡◌, ◌-◌, ◌≤◌, length, refl, arith, rules}
-use lib.Seq.{paste, paste-zero}
+use Rattle.std.proofs.Common.{refl, arith, rules}
+use lib.Seq.{paste-zero}
 use Rattle.listing_text.proofs.Laws.{put_whole, put_none, paste_more}
 use Rattle.listing_text.proofs.text.put_text.Goals as goal
 
