@@ -5,11 +5,11 @@ use std::path::Path;
 fn main() {
     println!("cargo:rerun-if-env-changed=SPACE_CHECK_DIR");
     let root = Path::new(env!("CARGO_MANIFEST_DIR")).join("..");
-    let folder = root.join(std::env::var_os("SPACE_CHECK_DIR").unwrap_or("target/staticlib".into()));
+    let folder = root.join(std::env::var_os("SPACE_CHECK_DIR").unwrap_or("target/checksum".into()));
     let archive = folder.join("libfletcher.a");
     println!("cargo:rerun-if-changed={}", archive.display());
     if !archive.exists() {
-        eprintln!("{} isn't there: run `rt staticlib fletcher` first", archive.display());
+        eprintln!("{} isn't there: run tools/checksum-archive first", archive.display());
         std::process::exit(1);
     }
     println!("cargo:rustc-link-search=native={}", folder.display());
