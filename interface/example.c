@@ -1,7 +1,7 @@
 /* example IMAGE: prints the verdict on a container in a file or block device, or the refusal's number.
  *
- *     rt staticlib interface
- *     cc -o target/example interface/example.c target/staticlib/libinterface.a
+ *     (cd crates/interface && rt lib)
+ *     cc -o target/example interface/example.c crates/interface/out/libinterface.a
  *
  * Exit status: 0 consistent, 1 inconsistent, 2 refused, 3 where the image can't be read. */
 #include <fcntl.h>

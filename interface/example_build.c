@@ -1,8 +1,8 @@
 /* example_build IMAGE: queues blocks of the 16-block sample container for release, in a root that is built to order, and prints
  * what the check says of it without and with the queue. The queued blocks are marked as free, which no queue may hold.
  *
- *     rt staticlib interface
- *     cc -o target/example_build interface/example_build.c target/staticlib/libinterface.a
+ *     (cd crates/interface && rt lib)
+ *     cc -o target/example_build interface/example_build.c crates/interface/out/libinterface.a
  *     target/example_build crates/listing/stdin
  *
  * Exit status: 0 where both were told, 1 where something is refused or can't be read. */

@@ -1,6 +1,6 @@
-/* The proved space check of an APFS container, and B-tree nodes built to order. Link target/staticlib/libinterface.a, which
- * `rt staticlib interface` writes (x86-64 Linux). What the two functions leave is stated in crates/interface/src/lib.rt: for every
- * image, map and array, and for every request. */
+/* The proved space check of an APFS container, and B-tree nodes built to order. Link crates/interface/out/libinterface.a, which
+ * `rt lib` writes in crates/interface (x86-64 Linux). What the two functions leave is stated in crates/interface/src/lib.rt: for
+ * every image, map and array, and for every request. */
 #ifndef SPACE_CHECK_H
 #define SPACE_CHECK_H
 

@@ -1,15 +1,20 @@
-"""Equations about a definition, computed by the checker in a crate of their own: in target/computed, over what is proved in target."""
+"""Equations about a definition, computed by the checker in a crate of their own, in a temporary folder.
+
+That is no part of the checkout, since `rt ci` refuses files of proofs outside its crates. What checks of the same crates kept
+elsewhere on this machine rt takes there as it is, and proves the rest first."""
 import os
 import shutil
 import subprocess
+import tempfile
 
-from definition import ROOT, read_text
+from definition import ROOT, uses
 from images import Fault
 
-WORK = os.path.join(ROOT, 'target', 'computed')
+WORK = tempfile.TemporaryDirectory(prefix='computed-')
+LIMITS = 'step limit', 'deep recursion'  # where the checker stopped, and judged nothing
 
 # Bytes before a list, in runs.
-FLAT = '''use mathlib.Core.List.{List, [], _∷_}
+FLAT = '''use mathlib.Core.List.{List, [], ◌∷◌}
 use Prim.Native.Nat.{ℕ, zero, suc}
 
 abbrev pub zeros : ℕ → List ℕ → List ℕ
@@ -42,18 +47,23 @@ def runs_of(data):
     return body
 
 
+def write(text, *path):
+    with open(os.path.join(WORK.name, *path), 'w', encoding='utf-8') as file:
+        file.write(text)
+
+
 def compute(shared, modules):
     """What the checker says of a crate with these modules, and its exit status."""
-    crate = os.path.join(WORK, 'crates', 'computed')
-    shutil.rmtree(crate, ignore_errors=True)
-    os.makedirs(crate + '/src')
-    os.makedirs(crate + '/specs')
-    open(crate + '/src/lib.rt', 'w').write('// The definition computed.\n')
+    crate = os.path.join(WORK.name, 'crates', 'computed')
+    shutil.rmtree(os.path.join(crate, 'proofs'), ignore_errors=True)
+    for folder in ('src', 'proofs'):
+        os.makedirs(os.path.join(crate, folder), exist_ok=True)
+    write('// The definition computed.\n#![tactic(auto)]\n', crate, 'src', 'lib.rt')
     files = {'Flat': FLAT} | shared | {f'V{k}': text for k, text in enumerate(modules)}
     for name, text in files.items():
-        open(f'{crate}/specs/{name}.antt', 'w').write(text)
-    open(crate + '/specs/Lib.antt', 'w').write(''.join(f'pub mod {name}\n' for name in files))
-    out = subprocess.run(['rt', 'dev', 'computed'], cwd=WORK, capture_output=True, text=True, env=dict(os.environ, RT_CUT='0'))
+        write(text, crate, 'proofs', f'{name}.antt')
+    write(''.join(f'pub mod {name}\n' for name in files), crate, 'proofs', 'Lib.antt')
+    out = subprocess.run(['rt', 'check'], cwd=crate, capture_output=True, text=True)
     return out.stdout + out.stderr, out.returncode
 
 
@@ -67,9 +77,9 @@ def verdicts(shared, modules):
             break
         failed = {}
         for place, k in enumerate(left):
-            errors = [line for line in said.split('\n') if f'specs/V{place}.antt' in line and 'error' in line]
+            errors = [line for line in said.split('\n') if f'proofs/V{place}.antt' in line and 'error' in line]
             if errors:
-                failed[k] = 'steps' if all('step limit' in line for line in errors) else 'differs'
+                failed[k] = 'steps' if all(any(limit in line for limit in LIMITS) for line in errors) else 'differs'
         if not failed:
             raise Fault(said)
         found.update(failed)
@@ -79,19 +89,15 @@ def verdicts(shared, modules):
 
 def needed(tops):
     """Crates, and all that they depend on."""
-    lines = (line.partition('#')[0].partition(':') for line in read_text('crates.txt').splitlines())
-    needs = {name.strip(): rest.split() for name, colon, rest in lines if colon}
-    return sorted({name for top in tops for name in (top, *needs[top])})
+    below = uses()
+    return sorted({name for top in tops for name in (top, *below[top])})
 
 
 def prepare(*tops):
-    """A repository of the crates, with one more that computes with some of them, over what is proved already."""
-    shutil.rmtree(WORK, ignore_errors=True)
-    shutil.copytree(os.path.join(ROOT, 'crates'), os.path.join(WORK, 'crates'))
-    with open(os.path.join(WORK, 'crates.txt'), 'w', encoding='utf-8') as file:
-        file.write(read_text('crates.txt'))
-        file.write(f"computed: {' '.join(needed(tops))}\n")
-    # rt proves a crate again unless its files are those that were proved
-    for folder in ('rlib', 'stamp', 'log'):
-        if os.path.isdir(os.path.join(ROOT, 'target', folder)):
-            shutil.copytree(os.path.join(ROOT, 'target', folder), os.path.join(WORK, 'target', folder))
+    """A repository of some crates and what they need, with one more that computes with them, each a library."""
+    below, names = uses(), needed(tops)
+    for name in names:
+        shutil.copytree(os.path.join(ROOT, 'crates', name), os.path.join(WORK.name, 'crates', name),
+                        ignore=shutil.ignore_patterns('out', 'must-fail'))
+    lines = [f"{name}: {' '.join(below[name])}\n" for name in names] + [f"computed: {' '.join(names)}\n"]
+    write(''.join(lines), 'crates.txt')

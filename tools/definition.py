@@ -3,11 +3,19 @@ import os
 import re
 
 ROOT = os.path.dirname(os.path.dirname(os.path.abspath(__file__)))
+# what `rt lib` writes in crates/interface
+ARCHIVE = os.path.join(ROOT, 'crates', 'interface', 'out', 'libinterface.a')
 
 
 def read_text(*path):
     with open(os.path.join(ROOT, *path), encoding='utf-8') as file:
         return file.read()
+
+
+def uses():
+    """What each crate of crates.txt uses."""
+    lines = (line.partition('#')[0].partition(':') for line in read_text('crates.txt').splitlines())
+    return {name.split()[0]: rest.split() for name, colon, rest in lines if colon}
 
 
 def places():
@@ -29,7 +37,7 @@ def unfoldable(*path):
 
 def refusals():
     """The numbers of all refusals, by their names."""
-    found = re.findall(r'^numberOf (\w+) = (\d+)$', read_text('crates', 'blocks', 'specs', 'Refusals.antt'), re.MULTILINE)
+    found = re.findall(r'^number_of (\w+) = (\d+)$', read_text('crates', 'blocks', 'specs', 'Refusals.antt'), re.MULTILINE)
     return {name: int(number) for name, number in found}
 
 
@@ -42,7 +50,7 @@ def listed(name):
 
 def kinds():
     """The names of claimants, by their numbers."""
-    return listed('kindNames')
+    return listed('kind_names')
 
 
 def problems():
@@ -51,5 +59,5 @@ def problems():
     later = re.search(r'ascii "( *problem # at 0x@)\\n"', lines)[1]
     # the only numbers that the file names are problems'
     numbers = re.findall(r'^abbrev pub \w+ : ℕ\n\w+ = (\d+)$', read_text('crates', 'audit', 'specs', 'Audit.antt'), re.MULTILINE)
-    formats = {int(number): later.replace('#', number) for number in numbers} | listed('problemFormats')
+    formats = {int(number): later.replace('#', number) for number in numbers} | listed('problem_formats')
     return {number: text.strip().replace('0x@', '{}') for number, text in formats.items()}

@@ -9,7 +9,7 @@ from support import (BASE_KINDS, BLOCK, CONSISTENT, FIGURES, INCONSISTENT, KINDS
                      PROBLEMS, REFUSALS, REFUSED, ROOT, SAMPLE, WITHDRAWN, CommandTest, bitmap_ring, claimants, claimed_twice,
                      figure, known, lost_and_leaked, numbered, page_rows, problems)
 
-LISTING = os.path.join(ROOT, 'target', 'bin', 'listing')
+LISTING = os.path.join(ROOT, 'crates', 'listing', 'out', 'listing')
 
 # the page's rows of problems: line, number, and the name that JSON alone has
 PROBLEM_ROWS = {int(number): (line, name) for line, number, name in page_rows(r'`([^`]*)` \| (\d+), (.*?)')}
@@ -167,7 +167,7 @@ class Answers(CommandTest):
 
     def proved_lines(self, image):
         """What the program crates/listing prints, whose text is proved."""
-        self.assertTrue(os.path.exists(LISTING), '`rt check listing` makes the program')
+        self.assertTrue(os.path.exists(LISTING), '`rt run` in crates/listing makes the program, and `rt ci`')
         with open(self.path(image), 'rb') as stdin:
             return subprocess.run([LISTING], stdin=stdin, capture_output=True, check=True).stdout.decode()
 

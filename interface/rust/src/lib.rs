@@ -13,10 +13,10 @@
 //! }
 //! ```
 //!
-//! The archive is looked for where `rt staticlib interface` writes it, in target/staticlib of the repository; another
-//! folder is named by the environment variable `SPACE_CHECK_DIR` when this crate is built. A relative path counts from
-//! the repository's root. Without the feature `archive`, which is on by default, nothing is linked: kinds, problems and
-//! refusals still have their names and the answer's numbers their [places], and nothing can be checked.
+//! The archive is looked for where `rt lib` writes it, in crates/interface/out of the repository; another folder is named
+//! by the environment variable `SPACE_CHECK_DIR` when this crate is built. A relative path counts from the repository's
+//! root. Without the feature `archive`, which is on by default, nothing is linked: kinds, problems and refusals still have
+//! their names and the answer's numbers their [places], and nothing can be checked.
 //!
 //! An image may be a file that is mapped. Then nothing may change the file during the call, and a read that the disk
 //! refuses ends the process by a signal (`SIGBUS`): the command `apfs-space-check` runs each check in a process of its own
