@@ -1,5 +1,4 @@
 use Rattle.interface.proofs.NodeLaws.{numbered}
-use borrow.Author.Rules.{rules}
 use Rattle.interface.proofs.build_node.Goals as goal
 
 pub returns : goal.returns

@@ -1,5 +1,4 @@
 use Rattle.interface.proofs.NodeLaws.{sizes_fixed}
-use borrow.Author.Rules.{rules}
 use Rattle.interface.proofs.sizes_of.Goals as goal
 
 pub returns-then-fixed : goal.returns-then-fixed

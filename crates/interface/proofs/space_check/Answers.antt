@@ -1,7 +1,6 @@
 use mathlib.Core.Path.{ap, ◌∙◌}
 use Rattle.space_check.specs.Check.{Result}
 use Rattle.interface.specs.Figures.{written}
-use borrow.Author.Rules.{rules}
 use Rattle.interface.proofs.space_check.Goals as goal
 
 pub returns : goal.returns

@@ -1,6 +1,5 @@
 use mathlib.Core.Path.{sym, ap, ◌∙◌}
 use Rattle.report.specs.Report.{ending_number}
-use borrow.Author.Rules.{rules}
 use Rattle.interface.proofs.figures.ending_number.Goals as goal
 
 pub returns-in-Done : goal.returns-in-Done

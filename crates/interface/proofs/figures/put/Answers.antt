@@ -1,6 +1,5 @@
 use mathlib.Core.Path.{sym}
 use lib.Seq.{set_out}
-use borrow.Author.Rules.{rules}
 use Rattle.interface.proofs.figures.put.Goals as goal
 
 pub returns-else-at-figures : goal.returns-else-at-figures

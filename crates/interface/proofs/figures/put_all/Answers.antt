@@ -1,9 +1,8 @@
-use mathlib.Core.Path.{◌≡◌, refl, ◌∙◌}
-use Prim.Native.Nat.{◌+◌, ◌-◌, ◌≤◌, ◌<◌}
+use mathlib.Core.Path.{refl, ◌∙◌}
+use Prim.Native.Nat.{◌≤◌, ◌<◌}
 use native.Mathlib.Nat.{add-zero}
 use Rattle.interface.proofs.Laws.{same_stores, number_stored, numbers_stored}
-use lib.ListN.{length, drop}
-use Rattle.interface.specs.clauses.Stored.{stored}
+use lib.ListN.{length}
 use borrow.Author.Rules.{rules}
 use Rattle.interface.proofs.figures.put_all.Goals as goal
 

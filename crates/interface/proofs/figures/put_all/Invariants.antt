@@ -1,10 +1,7 @@
-use mathlib.Core.Path.{◌≡◌, refl, ◌∙◌}
-use Prim.Native.Nat.{◌+◌, ◌-◌, ◌≤◌, ◌<◌}
-use native.Mathlib.Nat.{add-zero}
-use Rattle.interface.proofs.Laws.{same_stores, number_stored, numbers_stored}
+use mathlib.Core.Path.{◌≡◌}
+use Prim.Native.Nat.{◌+◌, ◌-◌, ◌≤◌}
 use lib.ListN.{length, drop}
 use Rattle.interface.specs.clauses.Stored.{stored}
-use borrow.Author.Rules.{rules}
 use Rattle.interface.proofs.figures.put_all.Given as goal
 
 abbrev pub invariant-loop-i : goal.invariant-loop-i

@@ -1,7 +1,6 @@
 use Rattle.interface.proofs.Laws.{stores_then}
 use native.Mathlib.Omega.{arith}
 use mathlib.Core.Path.{◌∙◌}
-use borrow.Author.Rules.{rules}
 use Rattle.interface.proofs.figures.put_lost.Goals as goal
 
 pub returns : goal.returns

@@ -1,12 +1,10 @@
 use Rattle.interface.proofs.Laws.{same_stores, part_stored, parts_stored}
-use Rattle.interface.specs.clauses.Stored.{lost_number, stored}
+use Rattle.interface.specs.clauses.Stored.{lost_number}
 use borrow.Author.Rules.{rules}
-use lib.Seq.{slice}
 use lib.ListN.{length}
 use native.Mathlib.Nat.{add-zero, sub_self}
 use Prim.Native.Nat.{suc, ◌+◌, ◌-◌, ◌≤◌, ◌<◌}
 use mathlib.Core.Path.{◌≡◌, refl, ◌∙◌}
-use mathlib.Core.List.{map}
 use Rattle.interface.proofs.figures.put_numbers.Goals as goal
 
 pub loop-i-init : goal.loop-i-init

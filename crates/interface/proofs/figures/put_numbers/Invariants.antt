@@ -1,11 +1,7 @@
-use Rattle.interface.proofs.Laws.{same_stores, part_stored, parts_stored}
 use Rattle.interface.specs.clauses.Stored.{lost_number, stored}
-use borrow.Author.Rules.{rules}
 use lib.Seq.{slice}
-use lib.ListN.{length}
-use native.Mathlib.Nat.{add-zero, sub_self}
-use Prim.Native.Nat.{suc, ◌+◌, ◌-◌, ◌≤◌, ◌<◌}
-use mathlib.Core.Path.{◌≡◌, refl, ◌∙◌}
+use Prim.Native.Nat.{◌+◌, ◌-◌, ◌≤◌}
+use mathlib.Core.Path.{◌≡◌}
 use mathlib.Core.List.{map}
 use Rattle.interface.proofs.figures.put_numbers.Given as goal
 

@@ -1,12 +1,10 @@
-use mathlib.Core.List.{flat_map}
-use mathlib.Core.Path.{◌≡◌, refl, ◌∙◌}
-use Prim.Native.Nat.{◌+◌, ◌*◌, ◌-◌, ◌≤◌, ◌<◌}
+use mathlib.Core.Path.{refl, ◌∙◌}
+use Prim.Native.Nat.{◌<◌}
 use native.Mathlib.Nat.{add-zero}
-use lib.ListN.{length, drop}
+use lib.ListN.{length}
 use borrow.Author.Rules.{rules}
 use Rattle.report.specs.Report.{logged}
 use Rattle.interface.specs.Figures.{problem_figures}
-use Rattle.interface.specs.clauses.Stored.{stored}
 use Rattle.interface.proofs.Laws.{same_stores, row_stored, rows_stored}
 use Rattle.interface.proofs.figures.put_problems.Goals as goal
 

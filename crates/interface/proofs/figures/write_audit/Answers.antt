@@ -1,5 +1,4 @@
 use Rattle.interface.proofs.Laws.{audit_stored}
-use borrow.Author.Rules.{rules}
 use Rattle.interface.proofs.figures.write_audit.Goals as goal
 
 pub returns : goal.returns

@@ -1,5 +1,4 @@
 use Rattle.interface.proofs.Laws.{claims_stored}
-use borrow.Author.Rules.{rules}
 use Rattle.interface.proofs.figures.write_claims.Goals as goal
 
 pub returns : goal.returns

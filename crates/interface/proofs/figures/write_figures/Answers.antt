@@ -1,5 +1,4 @@
 use Rattle.interface.proofs.Laws.{all_written}
-use borrow.Author.Rules.{rules}
 use Rattle.interface.proofs.figures.write_figures.Goals as goal
 
 pub returns : goal.returns
