@@ -36,7 +36,7 @@ module _ (id : ObjectId) (xid i x : ℕ) where
 
   pub above_equal : i ≡ id.0 → ltb xid x ≡ is_above id xid i x
   unfolding is_above
-  above_equal e = let h : i ≤ id.0 = omega arith in rw (le-ltb id.0 i h, eq-eqb i id.0 e) refl
+  above_equal e = let h : i ≤ id.0 = omega arith in simp (le-ltb id.0 i h, eq-eqb i id.0 e)
 
   pub above_less : i ≤ id.0 → (i ≡ id.0 → ⊥) → eqb i id.0 ≡ is_above id xid i x
   unfolding is_above
