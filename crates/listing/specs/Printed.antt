@@ -15,6 +15,6 @@ printed image = listing_of (check image (replicate map_bytes 0)).answer
 abbrev pub Prints : LentMut → ℕ → Lent → Type 0
 Prints text r image = (r ≡ length (printed (bytes image))) × (text.exit.now ≡ printed (bytes image) ++ drop r (bytes_lent text))
 
--- `&xs[..n]` is in bounds and has n bytes. The second part follows from the first, and spares a caller's `&xs[..n]` a proof file.
+-- n bytes can be cut from the front of a list, and the cut has n; that it has is said besides, so that `main` needs no proof of it
 abbrev pub IsPrefixLen : ℕ → List ℕ → Type 0
 IsPrefixLen n xs = (n ≤ length xs) × (n ≡ length (take n xs))
