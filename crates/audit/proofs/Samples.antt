@@ -1,10 +1,6 @@
 -- The audit of the main device over address blocks: the problems in their order, the blocks used, refusals. The sentences are
 -- document 02's, but for one.
-use mathlib.Core.Bool.{Bool}
-use mathlib.Core.List.{List, [], ◌∷◌, map}
-use Prim.Native.Nat.{ℕ, ◌+◌, ◌-◌, ◌*◌, ◌^◌}
-use lib.Dec.{T, eqb}
-use lib.ListN.{length, get_or, take, replicate}
+use Rattle.std.proofs.Common.{Bool, List, [], ◌∷◌, map, ℕ, ◌+◌, ◌-◌, ◌*◌, ◌^◌, T, eqb, length, get_or, take, replicate}
 use Rattle.fields.specs.Fields.{le, num, field_at, bit_at}
 use Rattle.fields.proofs.Rows.{Row, row, zeros, bytes_of, block_from, same, every}
 use Rattle.blocks.specs.Reads.{Reads, Outcome, given, refused, run, ◌>>=◌, need}

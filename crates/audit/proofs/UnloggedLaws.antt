@@ -1,12 +1,7 @@
 -- Laws of runs that log nothing.
-use mathlib.Core.Bool.{Bool, true, false, not, ◌&&◌}
-use mathlib.Core.List.{List}
-use mathlib.Core.Path.{◌≡◌, refl, ap, ◌∙◌}
-use Prim.Native.Nat.{ℕ, zero, suc, ◌+◌, ◌-◌, ◌^◌, ◌≤◌, ◌<◌}
-use native.Mathlib.Omega.{arith}
-use borrow.Author.Tests.{leb-true}
-use lib.Dec.{leb}
-use Rattle.blocks.specs.Reads.{Outcome, given, refused, run, ◌>>=◌}
+use Rattle.std.proofs.Common.{Bool, true, false, not, ◌&&◌, List, ◌≡◌, refl, ap, ◌∙◌, ℕ, zero, suc, ◌+◌, ◌-◌, ◌≤◌, ◌<◌, arith, leb, Result, Ok, Err, leb-true}
+use Rattle.blocks.specs.Reads.{Outcome, given, run, ◌>>=◌}
+use Rattle.blocks.specs.clauses.Answers.{outcome}
 use Rattle.blocks.specs.declared.Container.{Container}
 use Rattle.blocks.specs.declared.Refusal.{Refusal}
 use Rattle.blocks.proofs.Laws.{and_left, and_right, then_given, need_true}
@@ -53,9 +48,10 @@ module _ (c : Container) (p : Pool) where
 
 -- what an entry names, by whether it is a run, the container has it, and its blocks are unused and marked
 module _ (c : Container) (p : Pool) (map : List ℕ) (o : Outcome Run) where
-  pub unlogged_refused : (r : Refusal) → o ≡ refused r → false ≡ unlogged_run c p map o
+  pub unlogged_none : (r : Result Run Refusal) → outcome r ≡ o → ((x : Run) → r ≡ Ok x → ⊥) → false ≡ unlogged_run c p map o
   unfolding unlogged_run
-  unlogged_refused r e = rw e refl
+  unlogged_none (Ok x) e none = absurd (none x refl)
+  unlogged_none (Err y) e none = rw (← e) refl
 
   module _ (x : Run) (e : o ≡ given x) where
     pub unlogged_past : leb (x.start + x.count) c.count ≡ false → false ≡ unlogged_run c p map o
@@ -65,10 +61,6 @@ module _ (c : Container) (p : Pool) (map : List ℕ) (o : Outcome Run) where
     pub unlogged_is : (r : Bool) → leb (x.start + x.count) c.count ≡ true → all_unused c p map x.count x.start ≡ r → r ≡ unlogged_run c p map o
     unfolding unlogged_run
     unlogged_is r t h = rw (e, t, h) refl
-
--- no block number of a run that the container has passes 2^64
-pub run_fits : (end count : ℕ) → leb end count ≡ true → count < 2 ^ 64 → end < 2 ^ 64
-run_fits end count t h = omega (arith, leb-true end count t)
 
 -- bytes past the block count are kept, where the container has the run
 kept_run : (count left a : ℕ) (map : List ℕ) → a + left ≤ count → Kept count map (used_from left a map)
@@ -83,34 +75,31 @@ unfolding audit_queued
 entry_made f c p e x map after q t h used =
     rw used (was_made (λ figures. then_given f _ _ x q ∙ need_true f _ _ _ t ∙ all_unlogged c p f x.count x.start map figures h) (kept_run c.count x.count x.start map (leb-true _ _ t)))
 
--- the blocks of a run from place i on, of n
-module _ (start n i : ℕ) where
-  next_block : start + i + 1 ≡ start + (i + 1)
-  next_block = omega arith
-
-  pub use_done : (map : List ℕ) → n ≤ i → used_from (n - i) (start + i) map ≡ map
+-- the blocks of a run from a on, before its end
+module _ (end a : ℕ) where
+  pub use_done : (map : List ℕ) → end ≤ a → used_from (end - a) a map ≡ map
   unfolding used_from
-  use_done map h = rw (none_left n i h) refl
+  use_done map h = rw (none_left end a h) refl
 
-  pub use_more : (map : List ℕ) → i < n → used_from (n - i) (start + i) map ≡ used_from (n - (i + 1)) (start + (i + 1)) (update used (start + i) map)
+  pub use_more : (map : List ℕ) → a < end → used_from (end - a) a map ≡ used_from (end - (a + 1)) (a + 1) (update used a map)
   unfolding used_from
-  use_more map h = rw (one_less n i h, ← next_block) refl
+  use_more map h = rw (one_less end a h) refl
 
   module _ (c : Container) (p : Pool) (map : List ℕ) where
-    pub unused_done : n ≤ i → all_unused c p map (n - i) (start + i) ≡ true
+    pub unused_done : end ≤ a → all_unused c p map (end - a) a ≡ true
     unfolding all_unused
-    unused_done h = rw (none_left n i h) refl
+    unused_done h = rw (none_left end a h) refl
 
-    module _ (h : i < n) (t : Bool) (e : t ≡ used_at c map (start + i)) where
-      pub unused_used : t ≡ true → all_unused c p map (n - i) (start + i) ≡ false
+    module _ (h : a < end) where
+      pub unused_used : used_at c map a ≡ true → all_unused c p map (end - a) a ≡ false
       unfolding all_unused
-      unused_used k = rw (one_less n i h, ← e, k) refl
+      unused_used k = rw (one_less end a h, k) refl
 
-      module _ (k : t ≡ false) (m : Bool) (q : m ≡ pool_marked p (start + i)) where
-        pub unused_unmarked : m ≡ false → all_unused c p map (n - i) (start + i) ≡ false
+      module _ (k : used_at c map a ≡ false) where
+        pub unused_unmarked : pool_marked p a ≡ false → all_unused c p map (end - a) a ≡ false
         unfolding all_unused
-        unused_unmarked l = rw (one_less n i h, ← e, k, ← q, l) refl
+        unused_unmarked m = rw (one_less end a h, k, m) refl
 
-        pub unused_more : m ≡ true → all_unused c p map (n - i) (start + i) ≡ all_unused c p map (n - (i + 1)) (start + (i + 1))
+        pub unused_more : pool_marked p a ≡ true → all_unused c p map (end - a) a ≡ all_unused c p map (end - (a + 1)) (a + 1)
         unfolding all_unused
-        unused_more l = rw (one_less n i h, ← e, k, ← q, l, ← next_block) refl
+        unused_more m = rw (one_less end a h, k, m) refl

@@ -1,13 +1,7 @@
 -- Laws of a bitmap's bits that cannot be refused: one bit, a byte of them, and those that are left.
-use mathlib.Core.Bool.{Bool, true, false}
-use mathlib.Core.List.{List}
-use mathlib.Core.Path.{◌≡◌, refl, sym, ap, ◌∙◌}
-use Prim.Native.Nat.{ℕ, zero, suc, ◌+◌, ◌-◌, ◌*◌, ◌%◌, ◌^◌, ◌≤◌, ◌<◌}
-use native.Mathlib.Nat.{add-zero, zero-add, suc-add}
-use native.Mathlib.Omega.{arith}
-use lib.ListN.{length, get_or, set}
+use Rattle.std.proofs.Common.{Result, Bool, true, false, List, ◌≡◌, refl, sym, ap, ◌∙◌, ℕ, zero, suc, ◌+◌, ◌-◌, ◌*◌, ◌%◌, ◌^◌, ◌≤◌, ◌<◌, add-zero, zero-add, suc-add, arith, length, get_or, set, lt-ltb}
+use Rattle.blocks.specs.declared.Refusal.{Refusal}
 use lib.Seq.{set-get_or}
-use borrow.Author.Tests.{lt-ltb}
 use Rattle.fields.specs.Choice.{pick}
 use Rattle.fields.specs.Fields.{bit, bit_at}
 use Rattle.blocks.specs.Reads.{run, need, ◌>>=◌}
@@ -17,7 +11,6 @@ use Rattle.block_map.specs.BlockMap.{Marked, update, marked}
 use Rattle.block_map.specs.clauses.Maps.{Kept}
 use Rattle.block_map.proofs.Laws.{update_set, kept_same, kept_then, kept_update}
 use Rattle.pool.proofs.Laws.{bit_read_of, bit_none}
-use Rattle.report.specs.declared.Ending.{Ending}
 use Rattle.audit.specs.Audit.{mark_set, mark_bit, mark_from}
 use Rattle.report.specs.clauses.Steps.{Stepped}
 use Rattle.audit.specs.clauses.Bits.{bit_marked, bits_marked, ones_in}
@@ -157,9 +150,9 @@ module _ (c : Container) (bits : List ℕ) (start : ℕ) where
       rw (suc-add, next) (mark_one (m + left) i s (omega arith) fits ∙ mark_then m left (i + 1) _ (omega arith) fits)
 
   -- the bits of so many blocks, and then those that are left
-  pub marked_then : {f : ℕ → List ℕ} {ending : Ending} {after : List ℕ} {found : ℕ} (blocks m : ℕ) (map between : List ℕ) (zeros : ℕ) → m ≤ blocks → m ≤ c.count - start → c.count < 2 ^ 64
+  pub marked_then : {f : ℕ → List ℕ} {r : Result ℕ Refusal} {after : List ℕ} (blocks m : ℕ) (map between : List ℕ) (zeros : ℕ) → m ≤ blocks → m ≤ c.count - start → c.count < 2 ^ 64
       → record { map = between; figures = zeros } ≡ bits_marked bits start m 0 (record { map = map; figures = 0 })
-      → Stepped f c.count ending between after found (mark_from c bits start (blocks - m) m (record { map = between; figures = zeros })) → Stepped f c.count ending map after found (mark_from c bits start blocks 0 (record { map = map; figures = 0 }))
+      → Stepped f c.count r between after (mark_from c bits start (blocks - m) m (record { map = between; figures = zeros })) → Stepped f c.count r map after (mark_from c bits start blocks 0 (record { map = map; figures = 0 }))
   marked_then blocks m map between zeros h inside fits e k =
       record {
         goes = k.goes ∙ ap (run _) whole;

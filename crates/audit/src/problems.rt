@@ -1,14 +1,13 @@
 // What the audit counts, and the problems that it meets.
 ghost use Rattle.std.specs.Prelude.{◌≡◌};
-ghost use Rattle.report.specs.clauses.Steps.{past_of};
 ghost use Rattle.pool.specs.clauses.Place.{pool_on};
 ghost use Rattle.audit.specs.Audit.{no_audit, with_problems, with_ring, unless as unless_of, audit_mark, audit_use};
 ghost use Rattle.audit.specs.clauses.Answers.{Anywhere, AuditsStill, pool_at};
 
-use crate::{Audit, AuditStep, Audited};
+use crate::Audit;
 use blocks::{Container, Refusal};
 use pool::PoolPlace;
-use report::{Cursor, Ending, Problem, ProblemLog, logs, steps};
+use report::{Problem, ProblemLog, logs};
 
 pub(crate) const INFO_UNMARKED: u8 = 1;
 
@@ -29,9 +28,8 @@ pub const FREE_REPEATED: u8 = 8;
 pub fn nothing_audited() -> Audit
     ensures { result ≡ no_audit }
 {
-    let problems = logs::no_problems();
     Audit {
-        problems,
+        problems: logs::no_problems(),
         free: 0,
         wrong: 0,
         ring: 0,
@@ -41,72 +39,24 @@ pub fn nothing_audited() -> Audit
 fn with_problems(problems: ProblemLog, audit: Audit) -> Audit
     ensures { result ≡ with_problems problems audit }
 {
-    Audit {
-        problems,
-        free: audit.free,
-        wrong: audit.wrong,
-        ring: audit.ring,
-    }
+    Audit { problems, ..audit }
 }
 
 pub fn with_ring(ring: u64, audit: Audit) -> Audit
     ensures { result ≡ with_ring ring audit }
 {
-    let problems = audit.problems;
-    Audit {
-        problems,
-        free: audit.free,
-        wrong: audit.wrong,
-        ring,
-    }
-}
-
-pub fn refused(why: Refusal, audit: Audit) -> Audited
-    ensures { result ≡ record { ending = Ending.Refused why; audit = audit } }
-{
-    let ending = Ending::Refused(why);
-    Audited { ending, audit }
-}
-
-pub fn done(audit: Audit) -> Audited
-    ensures { result ≡ record { ending = Ending.Done; audit = audit } }
-{
-    let ending = Ending::Done;
-    Audited { ending, audit }
-}
-
-// Past the one at a cursor, once it was audited.
-pub(crate) fn past(audited: Audited, at: Cursor) -> AuditStep
-    ensures { result ≡ record { step = past_of audited.ending at; audit = audited.audit } }
-{
-    let ending = audited.ending;
-    let audit = audited.audit;
-    let step = steps::past(ending, at);
-    AuditStep { step, audit }
+    Audit { ring, ..audit }
 }
 
 // A problem with a block, unless the test holds. The map is left as it is.
-pub fn unless(ok: bool, kind: u8, number: u64, audit: Audit) -> Audited
-    ensures { Anywhere audit result (unless_of ok kind number) }
+pub fn unless(ok: bool, kind: u8, block: u64, audit: Audit) -> Result<Audit, Refusal>
+    ensures { Anywhere audit result (unless_of ok kind block) }
 {
     if ok {
-        return done(audit);
+        return Ok(audit);
     }
-    let before = audit.problems;
-    let logged = logs::add_problem(
-        before,
-        Problem {
-            kind,
-            block: number,
-        },
-    );
-    let ending = logged.ending;
-    let problems = logged.log;
-    let next = with_problems(problems, audit);
-    Audited {
-        ending,
-        audit: next,
-    }
+    let problems = logs::add_problem(audit.problems, Problem { kind, block })?;
+    Ok(with_problems(problems, audit))
 }
 
 // A problem unless the pool's bitmap marks the block: the same test for every sort of block.
@@ -117,7 +67,7 @@ pub(crate) fn audit_mark(
     unmarked: u8,
     block: u64,
     audit: Audit,
-) -> Audited
+) -> Result<Audit, Refusal>
     ensures { Anywhere audit result (audit_mark (pool_on image container place) unmarked block) }
 {
     let marked = pool::pool_marked(image, container, place, block);
@@ -134,17 +84,10 @@ pub(crate) fn audit_use(
     in_use: u8,
     block: u64,
     audit: Audit,
-) -> Audited
+) -> Result<Audit, Refusal>
     ensures { AuditsStill image map container audit result (λ f. audit_use container (pool_at container place f) unmarked in_use block) }
 {
-    let audited = audit_mark(image, container, place, unmarked, block, audit);
-    let ending = audited.ending;
-    match ending {
-        Ending::Refused(_) => audited,
-        Ending::Done => {
-            let next = audited.audit;
-            let used = block_map::used_at(map, container, block);
-            unless(!used, in_use, block, next)
-        }
-    }
+    let audit = audit_mark(image, container, place, unmarked, block, audit)?;
+    let used = block_map::used_at(map, container, block);
+    unless(!used, in_use, block, audit)
 }

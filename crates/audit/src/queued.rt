@@ -1,15 +1,13 @@
 // The blocks in the pool queue: each must be marked, and used by nothing else.
 ghost use Rattle.std.specs.Prelude.{◌≡◌, ◌+◌, ◌<◌, ◌≤◌, leb};
-ghost use Rattle.report.specs.clauses.Steps.{Ahead};
 ghost use Rattle.audit.specs.Audit.{audit_queued_block};
-ghost use Rattle.audit.specs.clauses.Answers.{AuditsAs, AuditsNext, pool_at, queued_left, queued_in, run_blocks};
+ghost use Rattle.audit.specs.clauses.Answers.{AuditsAs, pool_at, queued_left, queued_in, run_blocks};
 
-use crate::{Audit, AuditStep, Audited, problems};
+use crate::{Audit, problems};
 use blocks::{Container, Refusal};
 use nodes::EntryPlace;
 use pool::PoolPlace;
-use queue::{Run, RunAnswer};
-use report::{Cursor, Ending, Step};
+use queue::Run;
 
 // A queued block: unmarked, and then in use; it is used from here on.
 fn audit_block(
@@ -19,11 +17,11 @@ fn audit_block(
     place: PoolPlace,
     block: u64,
     audit: Audit,
-) -> Audited
+) -> Result<Audit, Refusal>
     requires { block < container.count }
     ensures { AuditsAs image map container audit result (λ f. audit_queued_block container (pool_at container place f) block) }
 {
-    let audited = problems::audit_use(
+    let audit = problems::audit_use(
         image,
         map,
         container,
@@ -32,31 +30,9 @@ fn audit_block(
         problems::QUEUED_IN_USE,
         block,
         audit,
-    );
-    let ending = audited.ending;
-    match ending {
-        Ending::Refused(_) => audited,
-        Ending::Done => {
-            block_map::use_block(map, block);
-            audited
-        }
-    }
-}
-
-// The queued block at a cursor.
-fn queued_next(
-    image: &[u8],
-    map: &mut [u8],
-    container: Container,
-    place: PoolPlace,
-    at: Cursor,
-    audit: Audit,
-) -> AuditStep
-    requires { Ahead at × (at.next < container.count) }
-    ensures { AuditsNext image map container at audit result (queued_left container place) }
-{
-    let audited = audit_block(image, map, container, place, at.next, audit);
-    problems::past(audited, at)
+    )?;
+    block_map::use_block(map, block);
+    Ok(audit)
 }
 
 // The blocks of a run that the container has.
@@ -67,27 +43,15 @@ fn audit_run(
     place: PoolPlace,
     run: Run,
     audit: Audit,
-) -> Audited
+) -> Result<Audit, Refusal>
     requires { run.start + run.count ≤ container.count }
     ensures { AuditsAs image map container audit result (queued_left container place (run_blocks run)) }
 {
-    let mut found = audit;
-    let mut at = Cursor {
-        next: run.start,
-        left: run.count,
-    };
-    while at.left != 0 {
-        let audited = queued_next(image, map, container, place, at, found);
-        let step = audited.step;
-        match step {
-            Step::Refused(r) => return problems::refused(r, found),
-            Step::On(to) => {
-                found = audited.audit;
-                at = to;
-            }
-        }
+    let mut audit = audit;
+    for block in run.start..run.start + run.count {
+        audit = audit_block(image, map, container, place, block, audit)?;
     }
-    problems::done(found)
+    Ok(audit)
 }
 
 // Whether the container has all blocks of a run, whose end could wrap.
@@ -106,17 +70,12 @@ pub fn audit_queued(
     place: PoolPlace,
     entry: EntryPlace,
     audit: Audit,
-) -> Audited
+) -> Result<Audit, Refusal>
     ensures { AuditsAs image map container audit result (queued_in container place node entry) }
 {
-    let named = queue::run_of(node, entry);
-    match named {
-        RunAnswer::Refused(r) => problems::refused(r, audit),
-        RunAnswer::Given(run) => {
-            if !has_run(container, run) {
-                return problems::refused(Refusal::Overflow, audit);
-            }
-            audit_run(image, map, container, place, run, audit)
-        }
+    let run = queue::run_of(node, entry)?;
+    if !has_run(container, run) {
+        return Err(Refusal::Overflow);
     }
+    audit_run(image, map, container, place, run, audit)
 }

@@ -79,8 +79,7 @@ fn mark_byte(map: &mut [u8], bits: &[u8], start: u64, index: u64, zeros: u64) ->
     requires { InMap map.old bits.now start index zeros }
     ensures { record { map = map.exit.now; figures = result } ≡ bits_on bits start 8 (8 * index) map zeros }
 {
-    let at = index as usize;
-    let b = bits[at];
+    let b = bits[index as usize];
     if b == ONES {
         mark_eight(map, bits, start, index, ONES);
         return zeros;
@@ -91,21 +90,19 @@ fn mark_byte(map: &mut [u8], bits: &[u8], start: u64, index: u64, zeros: u64) ->
     after
 }
 
-// The first bytes, so many as counted; answers how many bits were 0. A byte 0 touches nothing: a page of the map never written costs no memory.
+// The first bytes, so many as counted; answers how many bits were 0. A byte 0 touches nothing: a page of the map never written costs
+// no memory.
 pub(crate) fn mark_bytes(map: &mut [u8], bits: &[u8], start: u64, count: u64) -> u64
     requires { (8 * count ≤ length map.old - start) × (count ≤ length bits.now) }
     ensures { record { map = map.exit.now; figures = result } ≡ bits_on bits start (8 * count) 0 map 0 }
 {
     let mut zeros = 0;
-    let mut j = 0;
-    while j < count {
-        let at = j as usize;
-        if bits[at] == 0 {
+    for j in 0..count {
+        if bits[j as usize] == 0 {
             zeros += BYTE_BITS;
         } else {
             zeros = mark_byte(map, bits, start, j, zeros);
         }
-        j += 1;
     }
     zeros
 }

@@ -1,6 +1,6 @@
 -- Laws of rows: the greatest byte, and bytes that are all 0.
 use mathlib.Core.Bool.{true, false, ◌&&◌}
-use mathlib.Core.List.{List, [], ◌∷◌, ◌++◌, append_assoc, append-nil}
+use mathlib.Core.List.{List, [], ◌∷◌, ◌++◌, append_assoc}
 use mathlib.Core.Path.{◌≡◌, refl, ap, ◌∙◌}
 use Prim.Native.Nat.{ℕ, zero, suc, ◌+◌, ◌-◌, ◌≤◌, ◌<◌, max}
 use native.Mathlib.Decide.{ℕ_discrete}
@@ -8,7 +8,7 @@ use native.Mathlib.Numerals.{add-one}
 use native.Mathlib.Omega.{arith}
 use lib.Dec.{eqb}
 use lib.ListN.{length, get_or, take, drop, replicate, length-take, length-drop, length-replicate, replicate-append-replicate, drop_of_length-le}
-use lib.Seq.{drop-cons, drop-length, take_at, drop_at, drop-drop}
+use lib.Seq.{drop-cons, take_at, drop_at, drop-drop}
 use borrow.Author.Tests.{ne_eqb}
 use Rattle.block_map.specs.BlockMap.{cleared}
 use Rattle.block_map.specs.clauses.Rows.{greatest_in, itself, all_zero}
@@ -59,10 +59,6 @@ zero_row (x ∷ row) e = go (ℕ_discrete x 0) (zero_row row)
     go : Dec (x ≡ 0) → (all_zero row ≡ true → row ≡ replicate (length row) 0) → x ∷ row ≡ 0 ∷ replicate (length row) 0
     go (yes z) rest = rw (z, ← rest (rw z at e)) refl
     go (no h) rest = let never : false ≡ true = rw (ne_eqb x 0 h) at e in cc
-
-pub cleared_whole : (row : List ℕ) → cleared (length row) row ≡ replicate (length row) 0
-unfolding cleared
-cleared_whole row = rw (drop-length row) (append-nil _)
 
 cleared_more : (at k : ℕ) (before : List ℕ) → take at (cleared at before) ++ (replicate k 0 ++ drop k (drop at (cleared at before))) ≡ cleared (at + k) before
 unfolding cleared

@@ -1,7 +1,7 @@
 // The block map: a byte for each block, bits 0 to 3 its owner, bit 4 marked, bit 5 used in the pool.
 #![tactic(auto)]
 
-ghost use Rattle.std.specs.Prelude.{◌≡◌, ◌%◌, min, max, length, get_or, set, replicate};
+ghost use Rattle.std.specs.Prelude.{◌≡◌, ◌%◌, min, length, get_or, set, replicate};
 ghost use Rattle.block_map.specs.BlockMap.{owner_of, is_marked, is_used, marked, used, owned_by, update, used_at, cleared};
 ghost use Rattle.block_map.specs.clauses.Rows.{greatest_in, itself, all_zero};
 
@@ -101,19 +101,13 @@ pub fn used_at(map: &[u8], container: Container, block: u64) -> bool
     }
 }
 
-pub fn greater(greatest: u8, byte: u8) -> u8
-    ensures { result ≡ max greatest byte }
-{
-    if greatest < byte { byte } else { greatest }
-}
-
 // With no other test than the maximum's, so that many bytes are compared at once.
 fn greatest(row: &[u8]) -> u8
     ensures { result ≡ greatest_in itself row.now 0 }
 {
-    let mut g = 0;
-    for i in 0..row.len() {
-        g = greater(g, row[i]);
+    let mut g: u8 = 0;
+    for byte in row {
+        g = g.max(*byte);
     }
     g
 }
@@ -131,16 +125,14 @@ fn clear_row(row: &mut [u8])
     if is_zero(row) {
         return;
     }
-    for i in 0..row.len() {
-        row[i] = 0;
-    }
+    row.fill(0);
 }
 
 // Zeroes each block's byte, as far as the map goes.
 pub fn clear(map: &mut [u8], count: u64)
     ensures { map.new ≡ cleared (min count (length map.old)) map.old }
 {
-    let end = fields::least(count, map.len() as u64) as usize;
+    let end = count.min(map.len() as u64) as usize;
     let mut at = 0;
     while ROW <= end - at {
         let next = at + ROW;

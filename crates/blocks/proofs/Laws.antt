@@ -8,8 +8,10 @@ use lib.ListN.{length, length-take, length-drop}
 use native.Mathlib.Omega.{arith}
 use borrow.Author.Tests.{lt-ltb, le-ltb}
 use Rattle.blocks.specs.Reads.{Reads, done, refuse, read, Outcome, given, refused, run, visits, ◌>>=◌, need}
+use Rattle.std.specs.Prelude.{Result, Ok, Err, IsErrAnd}
 use Rattle.fletcher.specs.Fletcher.{verifies}
 use Rattle.blocks.specs.Blocks.{block_of, read_raw, read_object, sum}
+use Rattle.blocks.specs.clauses.Answers.{outcome_by}
 use Rattle.blocks.specs.declared.Address.{Address}
 use Rattle.blocks.specs.declared.Container.{Container}
 use Rattle.blocks.specs.declared.Refusal.{Refusal}
@@ -43,6 +45,22 @@ module _ {A B : Type 0} (f : ℕ → List ℕ) (p : Reads A) (g : A → Reads B)
 
   pub then_refused : (r : Refusal) → run f p ≡ refused r → run f (p >>= g) ≡ refused r
   then_refused r e = run_bind f p g ∙ rw e refl
+
+-- a step of the code answered what a pass does
+module _ {T A : Type 0} (view : T → A) (r : Result T Refusal) (f : ℕ → List ℕ) (p : Reads A) (e : outcome_by view r ≡ run f p) where
+  pub is_refused : (x : Refusal) → r ≡ Err x → run f p ≡ refused x
+  is_refused x q = sym e ∙ ap (outcome_by view) q
+
+  pub is_given : (t : T) → r ≡ Ok t → run f p ≡ given (view t)
+  is_given t q = sym e ∙ ap (outcome_by view) q
+
+  -- a `?` after it ends the sequence at a refusal, and goes on otherwise
+  pub at_err : {U B : Type 0} (seen : U → B) (g : A → Reads B) (x : Refusal) → r ≡ Err x → (s : Result U Refusal) → IsErrAnd s (λ y. y ≡ x) → outcome_by seen s ≡ run f (p >>= g)
+  at_err seen g x q (Err y) same = ap refused same ∙ sym (then_refused f p g x (is_refused x q))
+  at_err seen g x q (Ok u) same = absurd same
+
+  pub at_ok : {B : Type 0} (g : A → Reads B) (t : T) → r ≡ Ok t → (o : Outcome B) → o ≡ run f (g (view t)) → o ≡ run f (p >>= g)
+  at_ok g t q o h = h ∙ sym (then_given f p g (view t) (is_given t q))
 
 -- what follows a test, by the way that it goes
 module _ {A : Type 0} (f : ℕ → List ℕ) (b : Bool) (r : Refusal) (k : Unit {0} → Reads A) where

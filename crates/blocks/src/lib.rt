@@ -6,35 +6,35 @@ ghost use Rattle.blocks.specs.Refusals.{number_of};
 ghost use Rattle.blocks.specs.Reads.{run};
 ghost use Rattle.blocks.specs.Blocks.{block_of, read_raw, read_object, sum};
 ghost use Rattle.blocks.specs.clauses.Images.{bytes};
-ghost use Rattle.blocks.specs.clauses.Answers.{there_as, number_as, Always, Sees, SeesIn};
+ghost use Rattle.blocks.specs.clauses.Answers.{there_as, outcome, Always, Sees, SeesIn};
 
-// Why a pass gives no report, in checking order: specs/Refusals.antt has the number of each.
+// Why a pass gives no report, in checking order, each with its number.
 #[derive(Clone, Copy)]
 pub enum Refusal {
-    ShortImage,
-    NoMagic,
-    BlockSize,
-    BlockCount,
-    MissingBlocks,
-    ShortMap,
-    DescriptorLength,
-    DescriptorArea,
-    NoCheckpoint,
-    Incompatible,
-    CountDiffers,
-    PastContainer,
-    BadChecksum,
-    WrongKind,
-    BadNode,
-    Unmapped,
-    OutsideBytes,
-    WrongLevel,
-    BadBitmap,
-    Overflow,
-    TooManyNodes,
-    VolumeUnmapped,
-    NotVolume,
-    RingIndex,
+    ShortImage = 1,
+    NoMagic = 2,
+    BlockSize = 3,
+    BlockCount = 4,
+    MissingBlocks = 5,
+    ShortMap = 6,
+    DescriptorLength = 7,
+    DescriptorArea = 8,
+    NoCheckpoint = 9,
+    Incompatible = 10,
+    CountDiffers = 11,
+    PastContainer = 12,
+    BadChecksum = 13,
+    WrongKind = 14,
+    BadNode = 15,
+    Unmapped = 16,
+    OutsideBytes = 17,
+    WrongLevel = 18,
+    BadBitmap = 20,
+    Overflow = 21,
+    TooManyNodes = 22,
+    VolumeUnmapped = 23,
+    NotVolume = 24,
+    RingIndex = 25,
 }
 
 // An object's id and a block's address never interchange: the checkpoint map and, for volumes, the object map turn one into the other.
@@ -56,32 +56,7 @@ pub struct Container {
 pub fn number_of(why: Refusal) -> u8
     ensures { result ≡ number_of why }
 {
-    match why {
-        Refusal::ShortImage => 1,
-        Refusal::NoMagic => 2,
-        Refusal::BlockSize => 3,
-        Refusal::BlockCount => 4,
-        Refusal::MissingBlocks => 5,
-        Refusal::ShortMap => 6,
-        Refusal::DescriptorLength => 7,
-        Refusal::DescriptorArea => 8,
-        Refusal::NoCheckpoint => 9,
-        Refusal::Incompatible => 10,
-        Refusal::CountDiffers => 11,
-        Refusal::PastContainer => 12,
-        Refusal::BadChecksum => 13,
-        Refusal::WrongKind => 14,
-        Refusal::BadNode => 15,
-        Refusal::Unmapped => 16,
-        Refusal::OutsideBytes => 17,
-        Refusal::WrongLevel => 18,
-        Refusal::BadBitmap => 20,
-        Refusal::Overflow => 21,
-        Refusal::TooManyNodes => 22,
-        Refusal::VolumeUnmapped => 23,
-        Refusal::NotVolume => 24,
-        Refusal::RingIndex => 25,
-    }
+    why as u8
 }
 
 // The image as it is lent, and the size of its blocks. Once the size is known, every block is read through a reader.
@@ -89,20 +64,6 @@ pub fn number_of(why: Refusal) -> u8
 pub struct Reader<'a> {
     pub image: &'a [u8],
     pub size: u64,
-}
-
-// Whether a block may be read: what is read is `block`.
-#[derive(Clone, Copy)]
-pub enum Presence {
-    There,
-    Refused(Refusal),
-}
-
-// The address of a block that may be read, or why there is none.
-#[derive(Clone, Copy)]
-pub enum AddressAnswer {
-    Given(Address),
-    Refused(Refusal),
 }
 
 // Numbers below this have a product below 2^64.
@@ -139,21 +100,26 @@ fn block_in(image: &[u8], size: u64, address: Address) -> &[u8]
 }
 
 // An object that must verify, in an image whose blocks have a size.
-fn object_in(image: &[u8], size: u64, container: Container, address: Address) -> Presence
-    ensures { SeesIn (bytes image) size address result (read_object container address) }
+fn object_in(
+    image: &[u8],
+    size: u64,
+    container: Container,
+    address: Address,
+) -> Result<&[u8], Refusal>
+    ensures { SeesIn (bytes image) size result (read_object container address) }
 {
     let n = address.0;
     if n == 0 {
-        return Presence::Refused(Refusal::PastContainer);
+        return Err(Refusal::PastContainer);
     }
     if container.count <= n {
-        return Presence::Refused(Refusal::PastContainer);
+        return Err(Refusal::PastContainer);
     }
     let object = block_in(image, size, address);
     if fletcher::verify(object) {
-        Presence::There
+        Ok(object)
     } else {
-        Presence::Refused(Refusal::BadChecksum)
+        Err(Refusal::BadChecksum)
     }
 }
 
@@ -170,8 +136,8 @@ impl<'a> Reader<'a> {
         block_in(self.image, self.size, address)
     }
 
-    pub fn object(self, container: Container, address: Address) -> Presence
-        ensures { SeesIn self.entry.image.now self.entry.size address result (read_object container address) }
+    pub fn object(self, container: Container, address: Address) -> Result<&'a [u8], Refusal>
+        ensures { SeesIn self.entry.image.now self.entry.size result (read_object container address) }
     {
         object_in(self.image, self.size, container, address)
     }
@@ -184,38 +150,28 @@ pub fn block(image: &[u8], size: u64, address: Address) -> &[u8]
     Reader::over(image, size).block(address)
 }
 
-// A block as it is.
-pub fn raw_block(container: Container, address: Address) -> Presence
-    ensures { (f : ℕ → List ℕ) → there_as (f address.0) result ≡ run f (read_raw container address) }
+// A block as it is; whether it may be read is the same on every image.
+pub fn raw_block(image: &[u8], container: Container, address: Address) -> Result<&[u8], Refusal>
+    ensures block { Sees image container result (read_raw container address) }
+    ensures there { (f : ℕ → List ℕ) → there_as (f address.0) result ≡ run f (read_raw container address) }
 {
     if address.0 < container.count {
-        Presence::There
+        Ok(block(image, container.size, address))
     } else {
-        Presence::Refused(Refusal::PastContainer)
+        Err(Refusal::PastContainer)
     }
 }
 
 // An object that must verify, as a reader gives it.
-pub fn object_block(image: &[u8], container: Container, address: Address) -> Presence
-    ensures { Sees image container address result (read_object container address) }
+pub fn object_block(image: &[u8], container: Container, address: Address) -> Result<&[u8], Refusal>
+    ensures { Sees image container result (read_object container address) }
 {
     Reader::over(image, container.size).object(container, address)
 }
 
-// A number, or why there is none.
-#[derive(Clone, Copy)]
-pub enum NumberAnswer {
-    Given(u64),
-    Refused(Refusal),
-}
-
 // A sum that must stay below 2^64.
-pub fn add(number: u64, more: u64) -> NumberAnswer
-    ensures { Always (number_as result) (sum number more) }
+pub fn add(number: u64, more: u64) -> Result<u64, Refusal>
+    ensures { Always (outcome result) (sum number more) }
 {
-    if u64::MAX - number < more {
-        NumberAnswer::Refused(Refusal::Overflow)
-    } else {
-        NumberAnswer::Given(number + more)
-    }
+    number.checked_add(more).ok_or(Refusal::Overflow)
 }

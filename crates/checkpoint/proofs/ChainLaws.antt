@@ -1,30 +1,23 @@
 -- Laws of a chain read in place: its blocks come round with the ring, and a walk along them gives what the lists of the definition give.
+use Rattle.std.proofs.Common.{Option, Some, None, Continue, Break}
 use mathlib.Core.Path.{◌≡◌, refl, sym, ap, ◌∙◌}
-use mathlib.Core.Bool.{Bool, true, false, ◌&&◌, true≢false, and_assoc, and_comm, and-false}
+use mathlib.Core.Bool.{Bool, true, false, ◌&&◌, true≢false, and-false}
 use mathlib.Core.List.{List, [], ◌∷◌, ◌++◌, append-nil, append_assoc}
-use mathlib.Core.Option.{Option, some, none}
 use Prim.Native.Nat.{ℕ, zero, suc, ◌+◌, ◌-◌, ◌*◌, ◌%◌, ◌≤◌, ◌<◌, min, pred}
 use native.Mathlib.Nat.{add-zero, add-suc, add-mod_right, min-eq_left, min-eq_right}
 use native.Mathlib.Decide.{dec_le}
 use native.Mathlib.Omega.{arith}
-use lib.Dec.{ltb, leb, eqb}
+use lib.Dec.{ltb, eqb}
 use lib.ListN.{length}
-use borrow.Author.Tests.{lt-ltb, le-ltb, le-leb, lt-leb, eq-eqb, ne_eqb}
+use borrow.Author.Tests.{lt-ltb, le-ltb, eq-eqb, ne_eqb}
 use Rattle.fields.specs.Choice.{choose}
-use Rattle.fields.specs.Header.{kind_of, xid_of, checkpoint_map_kind}
-use Rattle.fletcher.specs.Fletcher.{verifies}
 use Rattle.blocks.specs.Reads.{Reads, Outcome, given, refused, run}
 use Rattle.blocks.specs.declared.ObjectId.{ObjectId}
 use Rattle.checkpoint.specs.Superblock.{descriptor_length, descriptor_base, descriptor_index}
-use Rattle.checkpoint.specs.Map.{map_entries_at, map_entry_length, map_count, mapping_at, mappings_from, mappings_of, belongs_to, ends_chain, chain_address, chain_from, chain, lookup}
-use Rattle.checkpoint.specs.clauses.InPlace.{Turn, stop, onward, turn_then, turns, link_of, test_at, look_of, look_at, lookup_in, map_of, loads}
+use Rattle.checkpoint.specs.Map.{map_entries_at, map_entry_length, mapping_at, mappings_from, mappings_of, belongs_to, ends_chain, chain_address, chain_from, chain, lookup}
+use Rattle.checkpoint.specs.clauses.InPlace.{Turn, test_turn, look_turn, turn_then, turns, link_of, test_at, look_of, look_at, lookup_in, map_of, loads}
 use Rattle.checkpoint.specs.declared.Geometry.{Geometry}
 use Rattle.checkpoint.specs.declared.Mapping.{Mapping}
-use Rattle.checkpoint.specs.declared.Mapped.{Mapped}
-use Rattle.checkpoint.specs.declared.Mapped.TheVariants.{To, Nowhere}
-use Rattle.blocks.specs.declared.Address.{Address}
-use Rattle.checkpoint.specs.declared.Link.{Link}
-use Rattle.checkpoint.specs.declared.Link.TheVariants as link
 
 -- a walk's turns, one at a time
 module _ {A : Type 0} (turn : ℕ → Turn A) (last : A) where
@@ -39,18 +32,18 @@ module _ {A : Type 0} (turn : ℕ → Turn A) (last : A) where
     one_less : n - k ≡ suc (n - (k + 1))
     one_less = omega arith
 
-    pub turns_stop : (a : A) → turn k ≡ stop a → turns turn last (n - k) k ≡ a
+    pub turns_stop : (a : A) → turn k ≡ Break a → turns turn last (n - k) k ≡ a
     unfolding turns
     turns_stop a t = rw (one_less, t)
 
-    pub turns_onward : turn k ≡ onward → turns turn last (n - k) k ≡ turns turn last (n - (k + 1)) (k + 1)
+    pub turns_onward : turn k ≡ Continue tt → turns turn last (n - k) k ≡ turns turn last (n - (k + 1)) (k + 1)
     unfolding turns
     turns_onward t = rw (one_less, t)
 
   -- one block more that ends nothing
-  turns_more : (n k : ℕ) → turn (k + n) ≡ onward → turns turn last (suc n) k ≡ turns turn last n k
+  turns_more : (n k : ℕ) → turn (k + n) ≡ Continue tt → turns turn last (suc n) k ≡ turns turn last n k
   unfolding turns
-  turns_more zero k t = let here : turn k ≡ onward = rw add-zero at t in rw here refl
+  turns_more zero k t = let here : turn k ≡ Continue tt = rw add-zero at t in rw here refl
   turns_more (suc n) k t = ap (turn_then (turn k)) (λ i _. turns_more n (k + 1) (rw same at t) i)
     where
       same : k + suc n ≡ k + 1 + n
@@ -62,8 +55,8 @@ module _ {A : Type 0} (turn : ℕ → Turn A) (last : A) where
   turns_again (suc n) k h r = go (turn k) refl
     where
       go : (t : Turn A) → turn k ≡ t → turns turn last (suc (suc n)) k ≡ turns turn last (suc n) k
-      go (stop a) q = rw q refl
-      go onward q = turns_more (suc n) k (r ∙ q)
+      go (Break a) q = rw q refl
+      go (Continue u) q = turns_more (suc n) k (r ∙ q)
 
   -- turns that come round: after as many as the ring has nothing new is met
   module _ (ring : ℕ) (some : 0 < ring) (round : (k : ℕ) → turn (k + ring) ≡ turn k) where
@@ -90,74 +83,14 @@ module _ (g : Geometry) (sb : List ℕ) where
 
   -- where a block of it stands, from the base and the index that were read
   module _ (k base index : ℕ) (p : base ≡ descriptor_base sb) (q : index ≡ descriptor_index sb) where
-    pub link_at : 0 < base + (index + k) % g.ring → base + (index + k) % g.ring < g.count → link_of g sb k ≡ link.At (record { 0 = base + (index + k) % g.ring })
-    unfolding link_of chain_address
-    link_at h l = rw (← p, ← q) (simp (lt-ltb _ _ h, lt-ltb _ _ l))
-
-    pub link_zero : base + (index + k) % g.ring ≡ 0 → link_of g sb k ≡ link.Outside
-    unfolding link_of chain_address
-    link_zero e = rw (← p, ← q, e) refl
-
-    pub link_past : g.count ≤ base + (index + k) % g.ring → link_of g sb k ≡ link.Outside
+    pub link_past : g.count ≤ base + (index + k) % g.ring → link_of g sb k ≡ None
     unfolding link_of chain_address
     link_past l = rw (← p, ← q) (simp (le-ltb _ _ l, and-false))
 
--- whether a block belongs to a map, its sum asked last
-module _ (sb b : List ℕ) where
-  abbrev has_entries : Bool
-  has_entries = leb (map_entries_at + map_entry_length * map_count b) (length b)
-
-  sum_last : belongs_to sb b ≡ (eqb (kind_of b) checkpoint_map_kind && (eqb (xid_of b) (xid_of sb) && has_entries) && verifies b)
-  unfolding belongs_to
-  sum_last = rw (and_assoc, and_assoc) (and_comm (verifies b) _)
-
-  pub belongs_kind : (kind_of b ≡ checkpoint_map_kind → ⊥) → belongs_to sb b ≡ false
-  belongs_kind h = sum_last ∙ simp (ne_eqb _ _ h)
-
-  module _ (k : kind_of b ≡ checkpoint_map_kind) where
-    pub belongs_xid : (xid_of b ≡ xid_of sb → ⊥) → belongs_to sb b ≡ false
-    belongs_xid h = sum_last ∙ simp (eq-eqb _ _ k, ne_eqb _ _ h)
-
-    module _ (x : xid_of b ≡ xid_of sb) where
-      pub belongs_entries : length b < map_entries_at + map_entry_length * map_count b → belongs_to sb b ≡ false
-      belongs_entries h = sum_last ∙ simp (eq-eqb _ _ k, eq-eqb _ _ x, lt-leb _ _ h)
-
-      pub belongs_sum : map_entries_at + map_entry_length * map_count b ≤ length b → belongs_to sb b ≡ verifies b
-      belongs_sum h = sum_last ∙ simp (eq-eqb _ _ k, eq-eqb _ _ x, le-leb _ _ h)
-
--- what a block of a chain says, from the place p that was found and the bytes b that stand there
-module _ (f : ℕ → List ℕ) (sb : List ℕ) (p : Link) where
-  pub test_outside : p ≡ link.Outside → test_at f sb p ≡ stop false
-  test_outside e = rw e refl
-
-  module _ (a : Address) (e : p ≡ link.At a) (b : List ℕ) (is : b ≡ f a.0) where
-    pub test_fails : belongs_to sb b ≡ false → test_at f sb p ≡ stop false
-    test_fails o = rw (e, ← is, o) refl
-
-    pub test_ends : belongs_to sb b ≡ true → ends_chain b ≡ true → test_at f sb p ≡ stop true
-    test_ends o l = rw (e, ← is, o) (rw l refl)
-
-    pub test_onward : belongs_to sb b ≡ true → ends_chain b ≡ false → test_at f sb p ≡ onward
-    test_onward o l = rw (e, ← is, o) (rw l refl)
-
-module _ (f : ℕ → List ℕ) (id : ObjectId) (p : Link) where
-  pub look_outside : p ≡ link.Outside → look_at f id p ≡ stop Nowhere
-  look_outside e = rw e refl
-
-  module _ (a : Address) (e : p ≡ link.At a) (b : List ℕ) (is : b ≡ f a.0) where
-    pub look_found : (m : Mapping) → lookup id (mappings_of b) ≡ To m → look_at f id p ≡ stop (To m)
-    look_found m l = rw (e, ← is, l) refl
-
-    pub look_ends : lookup id (mappings_of b) ≡ Nowhere → ends_chain b ≡ true → look_at f id p ≡ stop Nowhere
-    look_ends l o = rw (e, ← is, l) (rw o refl)
-
-    pub look_onward : lookup id (mappings_of b) ≡ Nowhere → ends_chain b ≡ false → look_at f id p ≡ onward
-    look_onward l o = rw (e, ← is, l) (rw o refl)
-
 -- of two lists the first that has an id
-abbrev first_of : Mapped → Mapped → Mapped
-first_of (To m) other = To m
-first_of Nowhere other = other
+abbrev first_of : Option Mapping → Option Mapping → Option Mapping
+first_of (Some m) other = Some m
+first_of None other = other
 
 lookup_append : (id : ObjectId) (ms ns : List Mapping) → lookup id (ms ++ ns) ≡ first_of (lookup id ms) (lookup id ns)
 unfolding lookup
@@ -168,29 +101,23 @@ lookup_append id (m ∷ ms) ns = go (eqb m.id.0 id.0) (lookup_append id ms ns) r
     go true rest e = rw e refl
     go false rest e = rw e rest
 
-look_end : (m : Mapped) (rest : Unit {0} → Mapped) → turn_then (look_of m true) rest ≡ m
-look_end (To m) rest = refl
-look_end Nowhere rest = refl
+look_end : (m : Option Mapping) (rest : Unit {0} → Option Mapping) → turn_then (look_of m true) rest ≡ m
+look_end (Some m) rest = refl
+look_end None rest = refl
 
-look_on : (m : Mapped) (rest : Unit {0} → Mapped) → turn_then (look_of m false) rest ≡ first_of m (rest tt)
-look_on (To m) rest = refl
-look_on Nowhere rest = refl
+look_on : (m : Option Mapping) (rest : Unit {0} → Option Mapping) → turn_then (look_of m false) rest ≡ first_of m (rest tt)
+look_on (Some m) rest = refl
+look_on None rest = refl
 
 run_choose : (f : ℕ → List ℕ) {A : Type 0} (t : Bool) (p q : Unit {0} → Reads A) → run f (choose t p q) ≡ choose t (λ _. run f (p tt)) (λ _. run f (q tt))
 run_choose f true p q = refl
 run_choose f false p q = refl
 
 module _ (f : ℕ → List ℕ) (g : Geometry) (sb : List ℕ) where
-  abbrev pub test_turn : ℕ → Turn Bool
-  test_turn k = test_at f sb (link_of g sb k)
-
-  abbrev pub look_turn : ObjectId → ℕ → Turn Mapped
-  look_turn id k = look_at f id (link_of g sb k)
-
   -- the chain from block k on, and the two walks along it
   data Walks (left k : ℕ) (found : List Mapping) : Type 0 where
-    fails : run f (chain_from g sb left k found) ≡ given none → turns test_turn true left k ≡ false → Walks left k found
-    holds : (ms : List Mapping) → run f (chain_from g sb left k found) ≡ given (some (found ++ ms)) → turns test_turn true left k ≡ true → ((id : ObjectId) → turns (look_turn id) Nowhere left k ≡ lookup id ms) → Walks left k found
+    fails : run f (chain_from g sb left k found) ≡ given None → turns (test_turn f g sb) true left k ≡ false → Walks left k found
+    holds : (ms : List Mapping) → run f (chain_from g sb left k found) ≡ given (Some (found ++ ms)) → turns (test_turn f g sb) true left k ≡ true → ((id : ObjectId) → turns (look_turn f g sb id) None left k ≡ lookup id ms) → Walks left k found
 
   abbrev inside : ℕ → Bool
   inside k = ltb 0 (chain_address g sb k) && ltb (chain_address g sb k) g.count
@@ -201,10 +128,10 @@ module _ (f : ℕ → List ℕ) (g : Geometry) (sb : List ℕ) where
       ≡ choose (inside k)
       (λ _. choose (belongs_to sb (f (chain_address g sb k)))
       (λ _. choose (ends_chain (f (chain_address g sb k)))
-      (λ _. given (some (found ++ mappings_of (f (chain_address g sb k)))))
+      (λ _. given (Some (found ++ mappings_of (f (chain_address g sb k)))))
       (λ _. run f (chain_from g sb left (k + 1) (found ++ mappings_of (f (chain_address g sb k))))))
-      (λ _. given none))
-      (λ _. given none)
+      (λ _. given None))
+      (λ _. given None)
   unfolding run chain_from
   chain_step left k found = simp (run_choose f)
 
@@ -228,29 +155,29 @@ module _ (f : ℕ → List ℕ) (g : Geometry) (sb : List ℕ) where
   chain_walks : Walks (pred (descriptor_length sb)) 0 []
   chain_walks = walks (pred (descriptor_length sb)) 0 []
 
-  pub loads_walk : loads (run f (chain g sb)) ≡ turns test_turn true (pred (descriptor_length sb)) 0
+  pub loads_walk : loads (run f (chain g sb)) ≡ turns (test_turn f g sb) true (pred (descriptor_length sb)) 0
   unfolding chain
   loads_walk = go chain_walks
     where
-      go : Walks (pred (descriptor_length sb)) 0 [] → loads (run f (chain_from g sb (pred (descriptor_length sb)) 0 [])) ≡ turns test_turn true (pred (descriptor_length sb)) 0
+      go : Walks (pred (descriptor_length sb)) 0 [] → loads (run f (chain_from g sb (pred (descriptor_length sb)) 0 [])) ≡ turns (test_turn f g sb) true (pred (descriptor_length sb)) 0
       go (fails a t) = rw (a, t) refl
       go (holds ms a t l) = rw (a, t) refl
 
-  pub chain_fails : loads (run f (chain g sb)) ≡ false → run f (chain g sb) ≡ given none
+  pub chain_fails : loads (run f (chain g sb)) ≡ false → run f (chain g sb) ≡ given None
   unfolding chain
   chain_fails e = go chain_walks
     where
-      go : Walks (pred (descriptor_length sb)) 0 [] → run f (chain_from g sb (pred (descriptor_length sb)) 0 []) ≡ given none
+      go : Walks (pred (descriptor_length sb)) 0 [] → run f (chain_from g sb (pred (descriptor_length sb)) 0 []) ≡ given None
       go (fails a t) = a
       go (holds ms a t l) = absurd (true≢false (sym t ∙ sym loads_walk ∙ e))
 
   module _ (e : loads (run f (chain g sb)) ≡ true) where
-    pub chain_loads : run f (chain g sb) ≡ given (some (map_of (run f (chain g sb))))
+    pub chain_loads : run f (chain g sb) ≡ given (Some (map_of (run f (chain g sb))))
     chain_loads = go (run f (chain g sb)) e
       where
-        go : (o : Outcome (Option (List Mapping))) → loads o ≡ true → o ≡ given (some (map_of o))
-        go (given (some ms)) t = refl
-        go (given none) t = absurd (true≢false (sym t))
+        go : (o : Outcome (Option (List Mapping))) → loads o ≡ true → o ≡ given (Some (map_of o))
+        go (given (Some ms)) t = refl
+        go (given None) t = absurd (true≢false (sym t))
         go (refused r) t = absurd (true≢false (sym t))
 
     -- an id's entry, found along the chain, is the one of its map
@@ -258,36 +185,35 @@ module _ (f : ℕ → List ℕ) (g : Geometry) (sb : List ℕ) where
     unfolding chain lookup_in
     lookup_in_place h id = rw (lt-ltb 0 g.ring h) (go chain_walks)
       where
-        go : Walks (pred (descriptor_length sb)) 0 [] → turns (look_turn id) Nowhere (pred (descriptor_length sb)) 0 ≡ lookup id (map_of (run f (chain_from g sb (pred (descriptor_length sb)) 0 [])))
+        go : Walks (pred (descriptor_length sb)) 0 [] → turns (look_turn f g sb id) None (pred (descriptor_length sb)) 0 ≡ lookup id (map_of (run f (chain_from g sb (pred (descriptor_length sb)) 0 [])))
         go (fails a t) = absurd (true≢false (sym e ∙ loads_walk ∙ t))
         go (holds ms a t l) = rw a (l id)
 
-  pub lookup_none : (id : ObjectId) → g.ring ≡ 0 → lookup_in f g sb id ≡ Nowhere
-  unfolding lookup_in
-  lookup_none id e = rw (le-ltb 0 g.ring (omega arith)) refl
-
   -- a ring's worth of blocks is enough for both
-  module _ (some : 0 < g.ring) where
-    pub loads_ring : turns test_turn true (min g.ring (pred (descriptor_length sb))) 0 ≡ loads (run f (chain g sb))
-    loads_ring = turns_ring test_turn true g.ring some (λ k. ap (test_at f sb) (link_round g sb k)) _ ∙ sym loads_walk
+  pub loads_ring : 0 < g.ring → turns (test_turn f g sb) true (min g.ring (pred (descriptor_length sb))) 0 ≡ loads (run f (chain g sb))
+  loads_ring some = turns_ring (test_turn f g sb) true g.ring some (λ k. ap (test_at f sb) (link_round g sb k)) _ ∙ sym loads_walk
 
-    pub lookup_ring : (id : ObjectId) → turns (look_turn id) Nowhere (min g.ring (pred (descriptor_length sb))) 0 ≡ lookup_in f g sb id
-    unfolding lookup_in
-    lookup_ring id = turns_ring (look_turn id) Nowhere g.ring some (λ k. ap (look_at f id) (link_round g sb k)) _ ∙ rw (lt-ltb 0 g.ring some) refl
+  pub lookup_ring : (id : ObjectId) → turns (look_turn f g sb id) None (min g.ring (pred (descriptor_length sb))) 0 ≡ lookup_in f g sb id
+  unfolding lookup_in turns
+  lookup_ring id = go (dec_le 1 g.ring)
+    where
+      go : Dec (1 ≤ g.ring) → turns (look_turn f g sb id) None (min g.ring (pred (descriptor_length sb))) 0 ≡ lookup_in f g sb id
+      go (yes some) = turns_ring (look_turn f g sb id) None g.ring some (λ k. ap (look_at f id) (link_round g sb k)) _ ∙ rw (lt-ltb 0 g.ring some) refl
+      go (no none) = let empty : min g.ring (pred (descriptor_length sb)) ≡ 0 = omega arith in rw (empty, le-ltb 0 g.ring (omega arith)) refl
 
 -- the entries of one block, from the i-th of n on
 module _ (b : List ℕ) (id : ObjectId) (n i : ℕ) where
-  abbrev pub left : Mapped
+  abbrev pub left : Option Mapping
   left = lookup id (mappings_from b (n - i) (map_entries_at + map_entry_length * i))
 
-  pub block_done : n ≤ i → left ≡ Nowhere
+  pub block_done : n ≤ i → left ≡ None
   unfolding lookup mappings_from
   block_done h = let e : n - i ≡ 0 = omega arith in rw e refl
 
   module _ (h : i < n) (found : ℕ) (is : found ≡ (mapping_at b (map_entries_at + map_entry_length * i)).id.0) where
-    pub block_here : (m : Mapping) → m ≡ mapping_at b (map_entries_at + map_entry_length * i) → found ≡ id.0 → left ≡ To m
+    pub block_here : (m : Mapping) → m ≡ mapping_at b (map_entries_at + map_entry_length * i) → found ≡ id.0 → left ≡ Some m
     unfolding lookup mappings_from
-    block_here m q e = let s : n - i ≡ suc (n - (i + 1)) = omega arith in rw (s, eq-eqb (mapping_at b (map_entries_at + map_entry_length * i)).id.0 id.0 (sym is ∙ e)) (ap To (sym q))
+    block_here m q e = let s : n - i ≡ suc (n - (i + 1)) = omega arith in rw (s, eq-eqb (mapping_at b (map_entries_at + map_entry_length * i)).id.0 id.0 (sym is ∙ e)) (ap Some (sym q))
 
     pub block_next : (found ≡ id.0 → ⊥) → left ≡ lookup id (mappings_from b (n - (i + 1)) (map_entries_at + map_entry_length * (i + 1)))
     unfolding lookup mappings_from

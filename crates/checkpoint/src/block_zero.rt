@@ -1,11 +1,11 @@
 // Refusals 1 to 8: what block 0 says of the container.
-ghost use Rattle.std.specs.Prelude.{◌≡◌, length, take};
+ghost use Rattle.std.specs.Prelude.{◌≡◌, ◌&&◌, ◌^◌, ◌-◌, leb, ltb, length, take};
 ghost use Rattle.blocks.specs.Reads.{run, no_blocks};
 ghost use Rattle.checkpoint.specs.Geometry.{geometry as geometry_of, least_size, size_allowed, allowed as allowed_for, stated as stated_in};
-ghost use Rattle.checkpoint.specs.clauses.Answers.{geometry_as};
+ghost use Rattle.blocks.specs.clauses.Answers.{outcome, Always};
 
 use crate::superblock::TOP_BIT;
-use crate::{Geometry, GeometryAnswer, superblock};
+use crate::{Geometry, need, superblock};
 use blocks::Refusal;
 
 // The bytes NXSB.
@@ -19,19 +19,18 @@ const MOST_BLOCKS: u64 = 4294967295;
 // A block's size is a power of two from 2^12 to 2^16.
 const LEAST_POWER: u64 = 12;
 
-const MOST_POWER: u64 = 16;
+const PAST_POWER: u64 = 17;
 
 pub fn size_allowed(size: u64) -> bool
     ensures { result ≡ size_allowed size }
 {
-    let mut k = LEAST_POWER;
-    while k <= MOST_POWER {
-        if size == 1 << k {
-            return true;
-        }
-        k += 1;
-    }
-    false
+    (LEAST_POWER..PAST_POWER).any(|power| size == 1 << power)
+}
+
+fn count_allowed(count: u64) -> bool
+    ensures { result ≡ (ltb 0 count && leb count (2 ^ 32 - 1)) }
+{
+    0 < count && count <= MOST_BLOCKS
 }
 
 fn stated(block: &[u8]) -> Geometry
@@ -45,47 +44,30 @@ fn stated(block: &[u8]) -> Geometry
     }
 }
 
-fn allowed(len: u64, room: u64, geometry: Geometry) -> GeometryAnswer
-    ensures { geometry_as result ≡ run no_blocks (allowed_for len room geometry) }
+fn allowed(len: u64, room: u64, geometry: Geometry) -> Result<Geometry, Refusal>
+    ensures { Always (outcome result) (allowed_for len room geometry) }
 {
-    if !size_allowed(geometry.size) {
-        return GeometryAnswer::Refused(Refusal::BlockSize);
-    }
-    if geometry.count == 0 {
-        return GeometryAnswer::Refused(Refusal::BlockCount);
-    }
-    if MOST_BLOCKS < geometry.count {
-        return GeometryAnswer::Refused(Refusal::BlockCount);
-    }
-    if len < geometry.count * geometry.size {
-        return GeometryAnswer::Refused(Refusal::MissingBlocks);
-    }
-    if room < geometry.count {
-        return GeometryAnswer::Refused(Refusal::ShortMap);
-    }
-    if TOP_BIT <= geometry.ring {
-        return GeometryAnswer::Refused(Refusal::DescriptorLength);
-    }
-    if geometry.count < geometry.ring {
-        return GeometryAnswer::Refused(Refusal::DescriptorArea);
-    }
-    if geometry.count - geometry.ring < geometry.base {
-        return GeometryAnswer::Refused(Refusal::DescriptorArea);
-    }
-    GeometryAnswer::Given(geometry)
+    let Geometry {
+        size,
+        count,
+        base,
+        ring,
+    } = geometry;
+    need(size_allowed(size), Refusal::BlockSize)?;
+    need(count_allowed(count), Refusal::BlockCount)?;
+    need(count * size <= len, Refusal::MissingBlocks)?;
+    need(count <= room, Refusal::ShortMap)?;
+    need(ring < TOP_BIT, Refusal::DescriptorLength)?;
+    need(fields::fits(count, base, ring), Refusal::DescriptorArea)?;
+    Ok(geometry)
 }
 
 // The container that block 0 names, where it passes refusals 1 to 8; room is the block map's length.
-pub fn geometry(image: &[u8], room: usize) -> GeometryAnswer
-    ensures { geometry_as result ≡ run no_blocks (geometry_of (length image.now) (take least_size image.now) room) }
+pub fn geometry(image: &[u8], room: usize) -> Result<Geometry, Refusal>
+    ensures { outcome result ≡ run no_blocks (geometry_of (length image.now) (take least_size image.now) room) }
 {
-    let len = image.len();
-    if len < LEAST_SIZE {
-        return GeometryAnswer::Refused(Refusal::ShortImage);
-    }
-    let b = fields::part_of(image, 0, LEAST_SIZE);
-    if superblock::magic_bytes(b) != MAGIC {
-        return GeometryAnswer::Refused(Refusal::NoMagic);
-    }
-    allowed(len as u64, room as u64, stated(b))
+    need(LEAST_SIZE <= image.len(), Refusal::ShortImage)?;
+    let first = &image[..LEAST_SIZE];
+    need(superblock::magic_bytes(first) == MAGIC, Refusal::NoMagic)?;
+    allowed(image.len() as u64, room as u64, stated(first))
 }

@@ -1,15 +1,15 @@
 // The checkpoint map of a superblock: a chain of blocks in the ring of the descriptor area.
-ghost use Rattle.std.specs.Prelude.{List, ◌≡◌, ℕ, ◌<◌, ◌≤◌, ◌^◌, ◌+◌, ◌*◌, pred, min};
-ghost use Rattle.fields.specs.Header.{xid_of};
+ghost use Rattle.std.specs.Prelude.{◌≡◌, ℕ, ◌<◌, ◌^◌, pred, min};
 ghost use Rattle.blocks.specs.Reads.{run};
 ghost use Rattle.blocks.specs.Blocks.{block_of};
-ghost use Rattle.blocks.specs.clauses.Images.{bytes, blocks_in};
+ghost use Rattle.blocks.specs.clauses.Images.{blocks_in};
 ghost use Rattle.checkpoint.specs.Superblock.{descriptor_length};
-ghost use Rattle.checkpoint.specs.Map.{map_count, map_entries_at, map_entry_length, mapping_at as mapping_of, mappings_of, belongs_to, ends_chain, chain, lookup as lookup_of};
-ghost use Rattle.checkpoint.specs.clauses.InPlace.{link_of, test_at, tested_as, look_at, looked_as, lookup_in, mapped_in, loads as loads_of};
+ghost use Rattle.checkpoint.specs.Map.{map_count, mapping_at as mapping_of, mappings_of, belongs_to, ends_chain, chain, lookup as lookup_of};
+ghost use Rattle.checkpoint.specs.clauses.InPlace.{Turn, turns, link_of, test_turn, look_turn, lookup_in, mapped_in, loads as loads_of};
 
-use crate::{Checkpoint, Geometry, Link, LinkLookup, LinkTest, Mapped, Mapping, superblock};
-use blocks::{Address, ObjectId};
+use crate::{Checkpoint, Geometry, Mapping, superblock};
+use blocks::{Address, ObjectId, Reader};
+use std::ops::ControlFlow;
 
 const CHECKPOINT_MAP: u64 = 12;
 
@@ -47,90 +47,10 @@ fn ends_chain(block: &[u8]) -> bool
 fn belongs_to(sb: &[u8], block: &[u8]) -> bool
     ensures { result ≡ belongs_to sb.now block.now }
 {
-    if fields::kind(block) != CHECKPOINT_MAP {
-        return false;
-    }
-    if fields::xid(block) != fields::xid(sb) {
-        return false;
-    }
-    if (block.len() as u64) < ENTRIES as u64 + ENTRY_LENGTH as u64 * map_count(block) {
-        return false;
-    }
-    fletcher::verify(block)
-}
-
-// Where block index of the chain stands.
-fn link(geometry: Geometry, sb: &[u8], index: u64) -> Link
-    requires { (0 < geometry.ring) × (index < 2 ^ 32) }
-    ensures { result ≡ link_of geometry sb.now index }
-{
-    let base = superblock::descriptor_base(sb);
-    let offset = (superblock::descriptor_index(sb) + index) % geometry.ring;
-    if geometry.count <= base {
-        return Link::Outside;
-    }
-    if geometry.count - base <= offset {
-        return Link::Outside;
-    }
-    let n = base + offset;
-    if n == 0 {
-        return Link::Outside;
-    }
-    Link::At(Address(n))
-}
-
-// How many blocks of a chain need a look: from the ring's length on they come round again.
-fn chain_blocks(geometry: Geometry, sb: &[u8]) -> u64
-    ensures { (result ≡ min geometry.ring (pred (descriptor_length sb.now))) × (result < 2 ^ 32) }
-{
-    let length = superblock::descriptor_length(sb);
-    if length == 0 {
-        return 0;
-    }
-    if length - 1 < geometry.ring {
-        length - 1
-    } else {
-        geometry.ring
-    }
-}
-
-fn test_block(image: &[u8], geometry: Geometry, sb: &[u8], index: u64) -> LinkTest
-    requires { (0 < geometry.ring) × (index < 2 ^ 32) }
-    ensures { tested_as result ≡ test_at (block_of (bytes image) geometry.size) (bytes sb) (link_of geometry (bytes sb) index) }
-{
-    let place = link(geometry, sb, index);
-    match place {
-        Link::Outside => LinkTest::Fails,
-        Link::At(a) => {
-            let b = blocks::block(image, geometry.size, a);
-            if !belongs_to(sb, b) {
-                return LinkTest::Fails;
-            }
-            if ends_chain(b) {
-                LinkTest::Ends
-            } else {
-                LinkTest::Onward
-            }
-        }
-    }
-}
-
-// Whether the chain of the superblock sb loads.
-pub(crate) fn loads(image: &[u8], geometry: Geometry, sb: &[u8]) -> bool
-    requires { 0 < geometry.ring }
-    ensures { result ≡ loads_of (run (block_of (bytes image) geometry.size) (chain geometry (bytes sb))) }
-{
-    let n = chain_blocks(geometry, sb);
-    let mut k = 0;
-    while k < n {
-        let tested = test_block(image, geometry, sb, k);
-        match tested {
-            LinkTest::Fails => return false,
-            LinkTest::Ends => return true,
-            LinkTest::Onward => k += 1,
-        }
-    }
-    true
+    fields::kind(block) == CHECKPOINT_MAP
+        && fields::xid(block) == fields::xid(sb)
+        && ENTRIES as u64 + ENTRY_LENGTH as u64 * map_count(block) <= block.len() as u64
+        && fletcher::verify(block)
 }
 
 fn mapping_at(block: &[u8], at: usize) -> Mapping
@@ -145,80 +65,126 @@ fn mapping_at(block: &[u8], at: usize) -> Mapping
 }
 
 // An id looked for in one block of the map: "Of two entries with one id the first holds."
-fn lookup_in_block(block: &[u8], id: ObjectId) -> Mapped
+fn lookup_in_block(block: &[u8], id: ObjectId) -> Option<Mapping>
     ensures { result ≡ lookup_of id (mappings_of block.now) }
 {
-    let n = map_count(block);
-    let mut i = 0;
-    while i < n {
+    for i in 0..map_count(block) {
         let at = ENTRIES + ENTRY_LENGTH * i as usize;
         if fields::u64_of(block, at + ENTRY_ID) == id.0 {
-            return Mapped::To(mapping_at(block, at));
+            return Some(mapping_at(block, at));
         }
-        i += 1;
     }
-    Mapped::Nowhere
+    None
 }
 
-// An id looked for in block index of the chain.
-fn look_in(
-    image: &[u8],
-    size: u64,
+// Turns at the places below n, until one ends the walk with its answer; last where none does.
+fn walk<T: Copy, F: Fn(u64) -> ControlFlow<T>>(n: u64, last: T, turn: F) -> T
+    requires { (k : ℕ) → k < n → F.pre turn k }
+    ensures { (h : ℕ → Turn T) → ((k : ℕ) (r : Turn T) → k < n → F.post turn k r → r ≡ h k) → result ≡ turns h last n 0 }
+{
+    for k in 0..n {
+        if let ControlFlow::Break(answer) = turn(k) {
+            return answer;
+        }
+    }
+    last
+}
+
+// The chain of map blocks that the superblock sb names, in the ring of the descriptor area.
+#[derive(Clone, Copy)]
+pub(crate) struct Chain<'a> {
+    reader: Reader<'a>,
     geometry: Geometry,
-    sb: &[u8],
-    id: ObjectId,
-    index: u64,
-) -> LinkLookup
-    requires { (0 < geometry.ring) × (index < 2 ^ 32) }
-    ensures { looked_as result ≡ look_at (block_of (bytes image) size) id (link_of geometry (bytes sb) index) }
-{
-    let place = link(geometry, sb, index);
-    match place {
-        Link::Outside => LinkLookup::Ends,
-        Link::At(a) => {
-            let b = blocks::block(image, size, a);
-            let mapped = lookup_in_block(b, id);
-            match mapped {
-                Mapped::To(m) => LinkLookup::Found(m),
-                Mapped::Nowhere => {
-                    if ends_chain(b) {
-                        LinkLookup::Ends
-                    } else {
-                        LinkLookup::Onward
-                    }
-                }
-            }
-        }
-    }
+    sb: &'a [u8],
 }
 
-// The entry of an id in the map of the superblock sb, whose chain was loaded before and isn't summed again.
-fn lookup_along(image: &[u8], size: u64, geometry: Geometry, sb: &[u8], id: ObjectId) -> Mapped
-    ensures { result ≡ lookup_in (block_of (bytes image) size) geometry (bytes sb) id }
-{
-    if geometry.ring == 0 {
-        return Mapped::Nowhere;
-    }
-    let n = chain_blocks(geometry, sb);
-    let mut k = 0;
-    while k < n {
-        let looked = look_in(image, size, geometry, sb, id, k);
-        match looked {
-            LinkLookup::Found(m) => return Mapped::To(m),
-            LinkLookup::Ends => return Mapped::Nowhere,
-            LinkLookup::Onward => k += 1,
+impl<'a> Chain<'a> {
+    pub(crate) fn of(reader: Reader<'a>, geometry: Geometry, superblock: Address) -> Chain<'a>
+        ensures of_reader { result.reader ≡ reader.entry }
+        ensures of_geometry { result.geometry ≡ geometry }
+        ensures of_superblock { result.sb.now ≡ block_of reader.entry.image.now reader.entry.size superblock.0 }
+    {
+        Chain {
+            reader,
+            geometry,
+            sb: reader.block(superblock),
         }
     }
-    Mapped::Nowhere
+
+    // How many of its blocks need a look: from the ring's length on they come round again.
+    fn chain_blocks(self) -> u64
+        ensures { (result ≡ min self.entry.geometry.ring (pred (descriptor_length self.entry.sb.now))) × (result < 2 ^ 32) }
+    {
+        let length = superblock::descriptor_length(self.sb);
+        fields::least(self.geometry.ring, length.saturating_sub(1))
+    }
+
+    // Where its block at an index stands, unless its address is a bad one.
+    fn link(self, index: u64) -> Option<Address>
+        requires { (0 < self.geometry.ring) × (index < 2 ^ 32) }
+        ensures { result ≡ link_of self.entry.geometry self.entry.sb.now index }
+    {
+        let base = superblock::descriptor_base(self.sb);
+        let offset = (superblock::descriptor_index(self.sb) + index) % self.geometry.ring;
+        let n = base.checked_add(offset)?;
+        (0 < n && n < self.geometry.count).then_some(Address(n))
+    }
+
+    // Whether it loads, where its block at an index tells.
+    fn test(self, index: u64) -> ControlFlow<bool>
+        requires { (0 < self.geometry.ring) × (index < 2 ^ 32) }
+        ensures { result ≡ test_turn (block_of self.entry.reader.image.now self.entry.reader.size) self.entry.geometry self.entry.sb.now index }
+    {
+        let Some(address) = self.link(index) else {
+            return ControlFlow::Break(false);
+        };
+        let block = self.reader.block(address);
+        if !belongs_to(self.sb, block) {
+            return ControlFlow::Break(false);
+        }
+        if ends_chain(block) {
+            ControlFlow::Break(true)
+        } else {
+            ControlFlow::Continue(())
+        }
+    }
+
+    pub(crate) fn loads(self) -> bool
+        requires { 0 < self.geometry.ring }
+        ensures { result ≡ loads_of (run (block_of self.entry.reader.image.now self.entry.reader.size) (chain self.entry.geometry self.entry.sb.now)) }
+    {
+        walk(self.chain_blocks(), true, |k| self.test(k))
+    }
+
+    // What its map has for an id, where its block at an index tells.
+    fn look(self, id: ObjectId, index: u64) -> ControlFlow<Option<Mapping>>
+        requires { (0 < self.geometry.ring) × (index < 2 ^ 32) }
+        ensures { result ≡ look_turn (block_of self.entry.reader.image.now self.entry.reader.size) self.entry.geometry self.entry.sb.now id index }
+    {
+        let Some(address) = self.link(index) else {
+            return ControlFlow::Break(None);
+        };
+        let block = self.reader.block(address);
+        let mapped = lookup_in_block(block, id);
+        if mapped.is_some() || ends_chain(block) {
+            ControlFlow::Break(mapped)
+        } else {
+            ControlFlow::Continue(())
+        }
+    }
+
+    // The entry of an id in its map; it was loaded before, and isn't summed again.
+    fn lookup(self, id: ObjectId) -> Option<Mapping>
+        ensures { result ≡ lookup_in (block_of self.entry.reader.image.now self.entry.reader.size) self.entry.geometry self.entry.sb.now id }
+    {
+        walk(self.chain_blocks(), None, |k| self.look(id, k))
+    }
 }
 
 // What the checkpoint map has for an id: the only passage from an object's id to an address.
-pub fn lookup(image: &[u8], checkpoint: Checkpoint, id: ObjectId) -> Mapped
+pub fn lookup(image: &[u8], checkpoint: Checkpoint, id: ObjectId) -> Option<Mapping>
     ensures { result ≡ mapped_in (blocks_in image.entry checkpoint.container) checkpoint id }
 {
-    let container = checkpoint.container;
-    let g = checkpoint.geometry;
-    let a = checkpoint.superblock;
-    let sb = blocks::block(image, container.size, a);
-    lookup_along(image, container.size, g, sb, id)
+    let reader = Reader::over(image, checkpoint.container.size);
+    Chain::of(reader, checkpoint.geometry, checkpoint.superblock).lookup(id)
 }

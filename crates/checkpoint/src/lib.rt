@@ -1,6 +1,8 @@
 // The container that block 0 names, the checkpoint that a pass takes, and its map (nx.rs).
 #![tactic(auto)]
 
+ghost use Rattle.std.specs.Prelude.{◌≡◌, true, false, OnOk, IfErr};
+
 use blocks::{Address, Container, ObjectId, Refusal};
 
 pub mod block_zero;
@@ -15,12 +17,6 @@ pub struct Geometry {
     pub count: u64,
     pub base: u64,
     pub ring: u64,
-}
-
-#[derive(Clone, Copy)]
-pub enum GeometryAnswer {
-    Given(Geometry),
-    Refused(Refusal),
 }
 
 // The checkpoint that a pass takes: its container, the descriptor area that block 0 names, and where its superblock stands.
@@ -38,33 +34,6 @@ pub struct Candidate {
     pub xid: u64,
 }
 
-#[derive(Clone, Copy)]
-pub enum Best {
-    Superblock(Candidate),
-    Nothing,
-}
-
-#[derive(Clone, Copy)]
-pub enum ContainerAnswer {
-    Given(Container),
-    Refused(Refusal),
-}
-
-// Where a block of a chain stands, unless its address is a bad one.
-#[derive(Clone, Copy)]
-pub(crate) enum Link {
-    At(Address),
-    Outside,
-}
-
-// Whether a block of a chain loads, and is the last.
-#[derive(Clone, Copy)]
-pub(crate) enum LinkTest {
-    Fails,
-    Ends,
-    Onward,
-}
-
 // An entry of the checkpoint map: the only passage from an object's id to its address.
 #[derive(Clone, Copy)]
 pub struct Mapping {
@@ -73,16 +42,10 @@ pub struct Mapping {
     pub address: Address,
 }
 
-#[derive(Clone, Copy)]
-pub enum Mapped {
-    To(Mapping),
-    Nowhere,
-}
-
-// What one block of a chain says of an id.
-#[derive(Clone, Copy)]
-pub(crate) enum LinkLookup {
-    Found(Mapping),
-    Ends,
-    Onward,
+// A test, and the refusal where it fails.
+pub(crate) fn need(holds: bool, why: Refusal) -> Result<(), Refusal>
+    ensures held { OnOk result (holds ≡ true) }
+    ensures failed { IfErr result (λ e. (holds ≡ false) × (e ≡ why)) }
+{
+    if holds { Ok(()) } else { Err(why) }
 }

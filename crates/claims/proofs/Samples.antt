@@ -1,7 +1,7 @@
 -- The claim of one mapping, live and deleted, by its flags, its address and the length of its key and value. The sentences are document 02's.
 use mathlib.Core.Bool.{Bool, not}
 use mathlib.Core.List.{List, [], ◌∷◌}
-use mathlib.Core.Option.{some}
+use Rattle.std.specs.Prelude.{Some}
 use Prim.Native.Nat.{ℕ, ◌+◌, ◌-◌, ◌^◌}
 use lib.Dec.{T, eqb}
 use lib.ListN.{replicate, take}
@@ -22,7 +22,7 @@ abbrev claimed : ℕ → ℕ → ℕ → ℕ → ℕ → Outcome (Marked Overlap
 claimed owner key_bytes value_bytes flags address =
     run no_blocks
     (claim_mapping (record { size = 4096; count = 16; xid = 7 }) (owned (replicate 16 owner) no_overlaps)
-    (record { key = replicate key_bytes 0; value = some (take value_bytes (bytes_of 4 flags (bytes_of 4 4096 (bytes_of 8 address [])))) }))
+    (record { key = replicate key_bytes 0; value = Some (take value_bytes (bytes_of 4 flags (bytes_of 4 4096 (bytes_of 8 address [])))) }))
 
 -- a figure of what is given; of a refusal, the paper's number plus 100
 abbrev figure : (Marked OverlapLog → ℕ) → Outcome (Marked OverlapLog) → ℕ

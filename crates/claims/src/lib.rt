@@ -1,21 +1,20 @@
 // The claims: who owns each block.
 #![tactic(auto)]
 
-ghost use Rattle.std.specs.Prelude.{◌≡◌, ◌||◌, ◌+◌, ◌%◌, ◌<◌, eqb};
+ghost use Rattle.std.specs.Prelude.{◌≡◌, ◌||◌, ◌+◌, ◌%◌, ◌<◌, eqb, ◌-◌, IfOk};
 ghost use Rattle.blocks.specs.clauses.Images.{bytes};
-ghost use Rattle.blocks.specs.clauses.Answers.{number_as, Always};
+ghost use Rattle.blocks.specs.clauses.Answers.{outcome, Always};
 ghost use Rattle.nodes.specs.clauses.Answers.{part_in, entry_in};
 ghost use Rattle.report.specs.clauses.Steps.{Ahead, Within};
 ghost use Rattle.totals.specs.Totals.{unowned};
 ghost use Rattle.claims.specs.Claims.{claim_block, claim_node, mapped_address, claim as claim_of};
-ghost use Rattle.claims.specs.clauses.Answers.{Claims, ClaimsTo, ClaimsNext, Owns, blocks_left, end_of, claiming_mapping, claiming_queued};
+ghost use Rattle.claims.specs.clauses.Answers.{Claims, ClaimsAt, ClaimsTo, Owns, blocks_left, end_of, claiming_mapping, claiming_queued};
 
-use blocks::{Address, Container, NumberAnswer};
+use blocks::{Address, Container, Refusal};
 use nodes::entries::field_in;
 use nodes::object_map::{MAPPING_ADDRESS, MAPPING_ID, MAPPING_XID, is_deleted};
-use nodes::{EntryPlace, Part, Value};
-use queue::RunAnswer;
-use report::{Cursor, Ending, Overlap, OverlapLog, Step, steps};
+use nodes::{EntryPlace, Part};
+use report::{Cursor, Overlap, OverlapLog};
 use totals::UNOWNED;
 
 pub mod unlogged;
@@ -43,20 +42,6 @@ pub const EXTENT_NODE: u8 = 10;
 
 pub const SNAPSHOT_NODE: u8 = 11;
 
-// How a claim ended, and the overlaps counted so far.
-#[derive(Clone, Copy)]
-pub struct Claimed {
-    pub ending: Ending,
-    pub log: OverlapLog,
-}
-
-// Where a claim came to along its blocks, or claims along what they are for, and the overlaps counted so far.
-#[derive(Clone, Copy)]
-pub struct ClaimStep {
-    pub step: Step,
-    pub log: OverlapLog,
-}
-
 // Whether a claim of a kind takes a block: one that nothing claimed, or that its own kind holds.
 pub(crate) fn takes(kind: u8, held: u8) -> bool
     ensures { result ≡ (eqb held unowned || eqb held kind) }
@@ -64,31 +49,27 @@ pub(crate) fn takes(kind: u8, held: u8) -> bool
     held == UNOWNED || held == kind
 }
 
-fn claim_block(map: &mut [u8], kind: u8, block: u64, log: OverlapLog) -> Claimed
+fn claim_block(map: &mut [u8], kind: u8, block: u64, log: OverlapLog) -> Result<OverlapLog, Refusal>
     requires { kind < 16 }
     ensures { ClaimsTo map (block + 1) log result (claim_block kind block) }
 {
-    let held = block_map::owner(block_map::cell(map, block));
-    if takes(kind, held) {
+    let owner = block_map::owner(block_map::cell(map, block));
+    if takes(kind, owner) {
         block_map::own_block(map, block, kind);
-        let ending = Ending::Done;
-        return Claimed { ending, log };
+        return Ok(log);
     }
-    let o = Overlap {
+    let overlap = Overlap {
         block,
-        owner: held,
+        owner,
         claimant: kind,
     };
-    let logged = report::logs::add_overlap(log, o);
-    let ending = logged.ending;
-    let log = logged.log;
-    Claimed { ending, log }
+    report::logs::add_overlap(log, overlap)
 }
 
 // Owns the blocks from a cursor on, up to the first that another kind holds; no log is carried along.
 fn own_from(map: &mut [u8], kind: u8, from: Cursor) -> Cursor
     requires { (kind < 16) × Within from }
-    ensures { Owns map from result (blocks_left kind) }
+    ensures { Owns map kind from result }
 {
     let end = from.next + from.left;
     let mut next = from.next;
@@ -102,47 +83,34 @@ fn own_from(map: &mut [u8], kind: u8, from: Cursor) -> Cursor
     }
 }
 
-// The block at a cursor, whoever holds it.
-fn claim_next(map: &mut [u8], kind: u8, at: Cursor, log: OverlapLog) -> ClaimStep
+// The block at a cursor, whoever holds it, and the cursor past it.
+fn claim_next(map: &mut [u8], kind: u8, at: Cursor, log: &mut OverlapLog) -> Result<Cursor, Refusal>
     requires { (kind < 16) × Ahead at }
-    ensures { ClaimsNext map at log result (blocks_left kind) }
+    ensures claimed { ClaimsAt kind at map.old map.new log.old log.new result }
+    ensures past { IfOk result (λ to. to ≡ record { next = at.next + 1; left = at.left - 1 }) }
 {
-    let claimed = claim_block(map, kind, at.next, log);
-    let ending = claimed.ending;
-    let log = claimed.log;
-    let step = steps::past(ending, at);
-    ClaimStep { step, log }
+    *log = claim_block(map, kind, at.next, *log)?;
+    let next = at.next + 1;
+    let left = at.left - 1;
+    Ok(Cursor { next, left })
 }
 
 // The blocks from a cursor on: the log is looked at only for those that another kind holds.
-fn claim_from(map: &mut [u8], kind: u8, from: Cursor, log: OverlapLog) -> Claimed
+fn claim_from(
+    map: &mut [u8],
+    kind: u8,
+    from: Cursor,
+    mut log: OverlapLog,
+) -> Result<OverlapLog, Refusal>
     requires { (kind < 16) × Within from }
     ensures { ClaimsTo map (end_of from) log result (blocks_left kind from) }
 {
-    let mut overlaps = log;
     let mut at = own_from(map, kind, from);
     while at.left != 0 {
-        let claimed = claim_next(map, kind, at, overlaps);
-        let step = claimed.step;
-        match step {
-            Step::Refused(r) => {
-                let ending = Ending::Refused(r);
-                return Claimed {
-                    ending,
-                    log: overlaps,
-                };
-            }
-            Step::On(to) => {
-                overlaps = claimed.log;
-                at = own_from(map, kind, to);
-            }
-        }
+        let past = claim_next(map, kind, at, &mut log)?;
+        at = own_from(map, kind, past);
     }
-    let ending = Ending::Done;
-    Claimed {
-        ending,
-        log: overlaps,
-    }
+    Ok(log)
 }
 
 // A kind is below 16; of any other number the low four bits are taken: the map has room for no more.
@@ -154,23 +122,14 @@ pub fn claim(
     start: u64,
     len: u64,
     log: OverlapLog,
-) -> Claimed
+) -> Result<OverlapLog, Refusal>
     ensures { Claims map container log result (claim_of container (kind % 16) start len) }
 {
     let claimant = block_map::owner(kind);
-    let sum = blocks::add(start, len);
-    match sum {
-        NumberAnswer::Refused(r) => {
-            let ending = Ending::Refused(r);
-            Claimed { ending, log }
-        }
-        NumberAnswer::Given(n) => {
-            let end = fields::least(n, container.count);
-            let next = fields::least(start, end);
-            let left = end - next;
-            claim_from(map, claimant, Cursor { next, left }, log)
-        }
-    }
+    let end = blocks::add(start, len)?.min(container.count);
+    let next = start.min(end);
+    let left = end - next;
+    claim_from(map, claimant, Cursor { next, left }, log)
 }
 
 // A node of a tree, by the kind of the tree's nodes.
@@ -180,24 +139,18 @@ pub fn claim_node(
     kind: u8,
     address: Address,
     log: OverlapLog,
-) -> Claimed
+) -> Result<OverlapLog, Refusal>
     ensures { Claims map container log result (λ s. claim_node container (kind % 16) s address) }
 {
     claim(map, container, kind, address.0, 1, log)
 }
 
 // A mapping's address; its key's fields must exist too.
-pub(crate) fn mapped_address(node: &[u8], key: Part, value: Part) -> NumberAnswer
-    ensures { Always (number_as result) (mapped_address (part_in (bytes node) key) (part_in (bytes node) value)) }
+pub(crate) fn mapped_address(node: &[u8], key: Part, value: Part) -> Result<u64, Refusal>
+    ensures { Always (outcome result) (mapped_address (part_in (bytes node) key) (part_in (bytes node) value)) }
 {
-    let id = field_in(node, key, MAPPING_ID);
-    if let NumberAnswer::Refused(r) = id {
-        return NumberAnswer::Refused(r);
-    }
-    let xid = field_in(node, key, MAPPING_XID);
-    if let NumberAnswer::Refused(r) = xid {
-        return NumberAnswer::Refused(r);
-    }
+    field_in(node, key, MAPPING_ID)?;
+    field_in(node, key, MAPPING_XID)?;
     field_in(node, value, MAPPING_ADDRESS)
 }
 
@@ -208,31 +161,17 @@ pub fn claim_mapping(
     container: Container,
     place: EntryPlace,
     log: OverlapLog,
-) -> Claimed
+) -> Result<OverlapLog, Refusal>
     ensures { Claims map container log result (claiming_mapping container (entry_in (bytes node) place)) }
 {
-    let key = place.key;
-    let value = place.value;
-    match value {
-        Value::Ghost => {
-            let ending = Ending::Done;
-            Claimed { ending, log }
-        }
-        Value::At(p) => {
-            let got = mapped_address(node, key, p);
-            match got {
-                NumberAnswer::Refused(r) => {
-                    let ending = Ending::Refused(r);
-                    Claimed { ending, log }
-                }
-                NumberAnswer::Given(a) => {
-                    if is_deleted(node, p) {
-                        let ending = Ending::Done;
-                        return Claimed { ending, log };
-                    }
-                    claim(map, container, VOLUME_SUPERBLOCK, a, 1, log)
-                }
+    match place.value {
+        None => Ok(log),
+        Some(value) => {
+            let address = mapped_address(node, place.key, value)?;
+            if is_deleted(node, value) {
+                return Ok(log);
             }
+            claim(map, container, VOLUME_SUPERBLOCK, address, 1, log)
         }
     }
 }
@@ -244,15 +183,9 @@ pub fn claim_queued(
     container: Container,
     place: EntryPlace,
     log: OverlapLog,
-) -> Claimed
+) -> Result<OverlapLog, Refusal>
     ensures { Claims map container log result (claiming_queued container (entry_in (bytes node) place)) }
 {
-    let ran = queue::run_of(node, place);
-    match ran {
-        RunAnswer::Refused(r) => {
-            let ending = Ending::Refused(r);
-            Claimed { ending, log }
-        }
-        RunAnswer::Given(b) => claim(map, container, FREE_QUEUE, b.start, b.count, log),
-    }
+    let run = queue::run_of(node, place)?;
+    claim(map, container, FREE_QUEUE, run.start, run.count, log)
 }

@@ -1,8 +1,8 @@
 -- The only sound superblock with the highest xid is tried first, and what the pass reads then.
+use Rattle.std.specs.Prelude.{None, Option, Some}
 use mathlib.Core.Path.{◌≡◌, refl, ap, ◌∙◌}
 use mathlib.Core.Bool.{Bool, true, false, ◌&&◌}
 use mathlib.Core.List.{List, [], ◌∷◌, ◌++◌, append-nil}
-use mathlib.Core.Option.{some}
 use mathlib.Core.Logic.{◌≢◌}
 use Prim.Native.Nat.{ℕ, zero, suc, ◌+◌, ◌<◌}
 use native.Mathlib.Omega.{arith}
@@ -21,8 +21,6 @@ use Rattle.checkpoint.specs.Map.{chain}
 use Rattle.checkpoint.specs.Checkpoint.{Taken, area_from, is_after, is_ahead, best_from, loaded, try, try_from, take_superblock}
 use Rattle.checkpoint.specs.declared.Geometry.{Geometry}
 use Rattle.checkpoint.specs.declared.Candidate.{Candidate}
-use Rattle.checkpoint.specs.declared.Best.{Best}
-use Rattle.checkpoint.specs.declared.Best.TheVariants.{Superblock, Nothing}
 use Rattle.checkpoint.specs.declared.Mapping.{Mapping}
 
 -- the numbers of the blocks from a on
@@ -59,56 +57,56 @@ but_first : (f : ℕ → List ℕ) (x left a : ℕ) → BelowBut f x 0 (suc left
 but_first f x left a h j hj e = let same : a + suc j ≡ a + 1 + j = omega arith in rw same at (h (suc j) (omega arith) (omega arith) (rw same e))
 
 -- the best stays the best among lower ones
-stays_here : (s : Bool) (x : ℕ) (c c' : Candidate) → (s ≡ true → x < c.xid) → pick (s && true && ltb c.xid x) (Superblock c') (Superblock c) ≡ Superblock c
+stays_here : (s : Bool) (x : ℕ) (c c' : Candidate) → (s ≡ true → x < c.xid) → pick (s && true && ltb c.xid x) (Some c') (Some c) ≡ Some c
 stays_here true x c c' h = rw (le-ltb c.xid x (let lower : x < c.xid = h refl in omega arith)) refl
 stays_here false x c c' h = refl
 
-stays : (f : ℕ → List ℕ) (left i a : ℕ) (c : Candidate) → Below f c.xid left a → best_from Nothing i (blocks_from f left a) (Superblock c) ≡ Superblock c
+stays : (f : ℕ → List ℕ) (left i a : ℕ) (c : Candidate) → Below f c.xid left a → best_from None i (blocks_from f left a) (Some c) ≡ Some c
 unfolding best_from blocks_from is_after is_ahead
 stays f zero i a c low = refl
 stays f (suc left) i a c low =
-    ap (best_from Nothing (i + 1) (blocks_from f left (a + 1))) (stays_here (sound (f a)) (xid_of (f a)) c (record { at = i; xid = xid_of (f a) }) (below_head f c.xid left a low))
+    ap (best_from None (i + 1) (blocks_from f left (a + 1))) (stays_here (sound (f a)) (xid_of (f a)) c (record { at = i; xid = xid_of (f a) }) (below_head f c.xid left a low))
     ∙ stays f left (i + 1) (a + 1) c (below_tail f c.xid left a low)
 
 -- a block of a lower xid leaves the best below x
-lower_here : (s : Bool) (y x : ℕ) (best : Best) (i : ℕ) → is_ahead best x ≡ true → (s ≡ true → y < x) → is_ahead (pick (s && true && is_ahead best y) (Superblock (record { at = i; xid = y })) best) x ≡ true
+lower_here : (s : Bool) (y x : ℕ) (best : Option Candidate) (i : ℕ) → is_ahead best x ≡ true → (s ≡ true → y < x) → is_ahead (pick (s && true && is_ahead best y) (Some (record { at = i; xid = y })) best) x ≡ true
 unfolding is_ahead
 lower_here false y x best i e h = e
 lower_here true y x best i e h = go (is_ahead best y)
   where
-    go : (t : Bool) → is_ahead (pick t (Superblock (record { at = i; xid = y })) best) x ≡ true
+    go : (t : Bool) → is_ahead (pick t (Some (record { at = i; xid = y })) best) x ≡ true
     go true = lt-ltb y x (h refl)
     go false = e
 
-wins_here : (s : Bool) (y x i : ℕ) (best : Best) → s ≡ true → y ≡ x → is_ahead best x ≡ true → pick (s && true && is_ahead best y) (Superblock (record { at = i; xid = y })) best ≡ Superblock (record { at = i; xid = x })
+wins_here : (s : Bool) (y x i : ℕ) (best : Option Candidate) → s ≡ true → y ≡ x → is_ahead best x ≡ true → pick (s && true && is_ahead best y) (Some (record { at = i; xid = y })) best ≡ Some (record { at = i; xid = x })
 wins_here s y x i best es ey e = rw (es, ey, e) refl
 
 -- the one of the highest xid is found
-finds : (f : ℕ → List ℕ) (x k left i a : ℕ) (best : Best) → k < left → sound (f (a + k)) ≡ true → xid_of (f (a + k)) ≡ x → BelowBut f x k left a → is_ahead best x ≡ true
-    → best_from Nothing i (blocks_from f left a) best ≡ Superblock (record { at = i + k; xid = x })
+finds : (f : ℕ → List ℕ) (x k left i a : ℕ) (best : Option Candidate) → k < left → sound (f (a + k)) ≡ true → xid_of (f (a + k)) ≡ x → BelowBut f x k left a → is_ahead best x ≡ true
+    → best_from None i (blocks_from f left a) best ≡ Some (record { at = i + k; xid = x })
 unfolding best_from blocks_from is_after
 finds f x k zero i a best h s q low e = absurd (not-suc-le-zero h)
 finds f x zero (suc left) i a best h s q low e =
     let here = wins_here (sound (f a)) (xid_of (f a)) x i best (rw add-zero at s) (rw add-zero at q) e in
-    ap (best_from Nothing (i + 1) (blocks_from f left (a + 1))) here ∙ (stays f left (i + 1) (a + 1) (record { at = i; xid = x }) (but_first f x left a low) ∙ rw (add-zero i) refl)
+    ap (best_from None (i + 1) (blocks_from f left (a + 1))) here ∙ (stays f left (i + 1) (a + 1) (record { at = i; xid = x }) (but_first f x left a low) ∙ rw (add-zero i) refl)
 finds f x (suc k) (suc left) i a best h s q low e =
     let same : a + suc k ≡ a + 1 + k = omega arith in
     let next : i + 1 + k ≡ i + suc k = omega arith in
     finds f x k left (i + 1) (a + 1)
-    (pick (sound (f a) && true && is_ahead best (xid_of (f a))) (Superblock (record { at = i; xid = xid_of (f a) })) best)
+    (pick (sound (f a) && true && is_ahead best (xid_of (f a))) (Some (record { at = i; xid = xid_of (f a) })) best)
     (omega arith)
     (rw same at s)
     (rw same at q)
     (but_tail f x k left a low)
     (lower_here (sound (f a)) (xid_of (f a)) x best i e (but_head f x k left a low))
-    ∙ ap {B = Best} (λ (n : ℕ). Superblock (record { at = n; xid = x })) next
+    ∙ ap {B = (Option Candidate)} (λ (n : ℕ). Some (record { at = n; xid = x })) next
 
 -- the superblock at index at is the only sound one with the highest xid, and its chain loads as ms
 pub record Leads (f : ℕ → List ℕ) (g : Geometry) (at : ℕ) (ms : List Mapping) : Type 0 where
   pub inside : at < g.ring
   pub is_sound : sound (f (g.base + at)) ≡ true
   pub highest : BelowBut f (xid_of (f (g.base + at))) at g.ring g.base
-  pub loads : run f (chain g (f (g.base + at))) ≡ given (some ms)
+  pub loads : run f (chain g (f (g.base + at))) ≡ given (Some ms)
 
 abbrev pub taken_at : (ℕ → List ℕ) → Geometry → ℕ → List Mapping → Taken
 taken_at f g at ms = record { sb = f (g.base + at); at = at; map = ms }
@@ -121,27 +119,27 @@ module _ (f : ℕ → List ℕ) (g : Geometry) (at : ℕ) (ms : List Mapping) (t
   abbrev best : Candidate
   best = record { at = 0 + at; xid = xid_of (f (g.base + at)) }
 
-  best_found : best_from Nothing 0 area Nothing ≡ Superblock best
+  best_found : best_from None 0 area None ≡ Some best
   unfolding is_ahead
-  best_found = finds f (xid_of (f (g.base + at))) at g.ring 0 g.base Nothing t.inside t.is_sound refl t.highest refl
+  best_found = finds f (xid_of (f (g.base + at))) at g.ring 0 g.base None t.inside t.is_sound refl t.highest refl
 
   in_area : get_or area (0 + at) [] ≡ f (g.base + at)
   in_area = rw zero-add (blocks_at f g.ring g.base at t.inside)
 
-  try_run : (again : Candidate → Reads Taken) → run f (try g area again (Superblock best)) ≡ given (taken_at f g at ms)
+  try_run : (again : Candidate → Reads Taken) → run f (try g area again (Some best)) ≡ given (taken_at f g at ms)
   unfolding try loaded run
   try_run again = rw in_area (run_bind f (chain g (f (g.base + at))) _ ∙ rw (t.loads, zero-add) refl)
 
-  try_visits : (again : Candidate → Reads Taken) → visits f (try g area again (Superblock best)) ≡ visits f (chain g (f (g.base + at)))
+  try_visits : (again : Candidate → Reads Taken) → visits f (try g area again (Some best)) ≡ visits f (chain g (f (g.base + at)))
   unfolding try loaded visits
   try_visits again = rw in_area (visits_bind f (chain g (f (g.base + at))) _ ∙ rw t.loads (append-nil _))
 
-  first_run : (left : ℕ) → at < left → run f (try_from g area left Nothing) ≡ given (taken_at f g at ms)
+  first_run : (left : ℕ) → at < left → run f (try_from g area left None) ≡ given (taken_at f g at ms)
   unfolding try_from
   first_run zero h = absurd (not-suc-le-zero h)
   first_run (suc left) h = rw best_found (try_run _)
 
-  first_visits : (left : ℕ) → at < left → visits f (try_from g area left Nothing) ≡ visits f (chain g (f (g.base + at)))
+  first_visits : (left : ℕ) → at < left → visits f (try_from g area left None) ≡ visits f (chain g (f (g.base + at)))
   unfolding try_from
   first_visits zero h = absurd (not-suc-le-zero h)
   first_visits (suc left) h = rw best_found (try_visits _)

@@ -14,8 +14,7 @@ use lib.Pow.{pow-add, pow_mono, pow_pos, shl_exact}
 use borrow.Author.Tests.{le-leb, lt-leb, lt-ltb, le-ltb}
 use Rattle.fields.specs.clauses.Numbers.{NumberAt, FieldOf}
 use Rattle.fields.specs.Fields.{le, num, field_at, bit, bit_at}
-use Rattle.fields.specs.declared.Field.{Field}
-use Rattle.fields.specs.declared.Field.TheVariants.{Value, Absent}
+use Rattle.std.specs.Prelude.{Option, Some, None}
 
 num_nil : (w off : ℕ) → num w [] off ≡ 0
 unfolding num le
@@ -72,11 +71,11 @@ module _ (b : List ℕ) (off k v x : ℕ) (below : k < 8) (so_far : NumberAt k b
       next : k + 1 ≡ suc k
       next = omega arith
 
-pub field_there : (w : ℕ) (b : List ℕ) (off : ℕ) → off + w ≤ length b → field_at w b off ≡ Value (num w b off)
+pub field_there : (w : ℕ) (b : List ℕ) (off : ℕ) → off + w ≤ length b → field_at w b off ≡ Some (num w b off)
 unfolding field_at
 field_there w b off h = simp (le-leb _ _ h)
 
-pub field_absent : (w : ℕ) (b : List ℕ) (off : ℕ) → length b < off + w → field_at w b off ≡ Absent
+pub field_absent : (w : ℕ) (b : List ℕ) (off : ℕ) → length b < off + w → field_at w b off ≡ None
 unfolding field_at
 field_absent w b off h = simp (lt-leb _ _ h)
 
@@ -136,18 +135,18 @@ module _ (w : ℕ) (b : List ℕ) (off : ℕ) where
 
 -- what a reader of a field answers
 
-pub value_of : (w : ℕ) (b : List ℕ) (off r : ℕ) → NumberAt w b off r → off + w ≤ length b → FieldOf w b off (Value r)
-value_of w b off r n h = record { is = ap Value n.is ∙ sym (field_there w b off h); fits = λ v e. same v e n.fits }
+pub value_of : (w : ℕ) (b : List ℕ) (off r : ℕ) → NumberAt w b off r → off + w ≤ length b → FieldOf w b off (Some r)
+value_of w b off r n h = record { is = ap (λ (v : ℕ). Some v) n.is ∙ sym (field_there w b off h); fits = λ v e. same v e n.fits }
   where
-    same : (v : ℕ) → Value r ≡ Value v → r < 2 ^ (8 * w) → v < 2 ^ (8 * w)
+    same : (v : ℕ) → Some r ≡ Some v → r < 2 ^ (8 * w) → v < 2 ^ (8 * w)
     same v e h = let same_number : r ≡ v = cc in omega arith
 
-pub absent_of : (w : ℕ) (b : List ℕ) (off : ℕ) → length b < off + w → FieldOf w b off Absent
+pub absent_of : (w : ℕ) (b : List ℕ) (off : ℕ) → length b < off + w → FieldOf w b off None
 absent_of w b off h = record { is = sym (field_absent w b off h); fits = λ v e. nothing v e }
   where
-    nothing : (v : ℕ) → Absent ≡ Value v → v < 2 ^ (8 * w)
+    nothing : (v : ℕ) → None ≡ Some v → v < 2 ^ (8 * w)
     nothing v e = let z : ◌≡◌ {A = ℕ} 0 1 = cc in absurd (omega arith)
 
 -- a field of the bytes that a part is
-pub field_in : (w : ℕ) (b part : List ℕ) (off : ℕ) (r : Field) → b ≡ part → FieldOf w b off r → FieldOf w part off r
+pub field_in : (w : ℕ) (b part : List ℕ) (off : ℕ) (r : Option ℕ) → b ≡ part → FieldOf w b off r → FieldOf w part off r
 field_in w b part off r e h = rw (← e) h

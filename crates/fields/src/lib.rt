@@ -23,13 +23,6 @@ pub const BYTE_BITS: u64 = 8;
 
 const NUMBER_BITS: u64 = 64;
 
-// What stands at a place: a number, or nothing where the field isn't wholly inside its bytes.
-#[derive(Clone, Copy)]
-pub enum Field {
-    Value(u64),
-    Absent,
-}
-
 pub fn least(one: u64, other: u64) -> u64
     ensures { result ≡ min one other }
 {
@@ -100,21 +93,21 @@ pub fn u64_of(bytes: &[u8], at: usize) -> u64
     number(bytes, at, 8)
 }
 
-// The field of width bytes from at on.
-fn field_at(bytes: &[u8], at: usize, width: usize) -> Field
+// The field of width bytes from at on; None where it isn't wholly inside its bytes.
+fn field_at(bytes: &[u8], at: usize, width: usize) -> Option<u64>
     requires { width ≤ 8 }
     ensures { FieldOf width bytes.now at result }
 {
     let n = bytes.len();
     if width <= n {
         if at <= n - width {
-            return Field::Value(inside(bytes, at, width));
+            return Some(inside(bytes, at, width));
         }
     }
-    Field::Absent
+    None
 }
 
-fn u64_at(bytes: &[u8], at: usize) -> Field
+fn u64_at(bytes: &[u8], at: usize) -> Option<u64>
     ensures { FieldOf 8 bytes.now at result }
 {
     field_at(bytes, at, 8)
@@ -136,7 +129,7 @@ pub fn part_of(bytes: &[u8], start: usize, len: usize) -> &[u8]
 }
 
 // The field of eight bytes from at on in a part: in a key, or a value, cut from the middle of its node.
-pub fn u64_in(bytes: &[u8], start: usize, len: usize, at: usize) -> Field
+pub fn u64_in(bytes: &[u8], start: usize, len: usize, at: usize) -> Option<u64>
     ensures { FieldOf 8 (take len (drop start bytes.now)) at result }
 {
     let cut = part_of(bytes, start, len);

@@ -1,14 +1,14 @@
 -- Laws of the sums: they count modulo M alone, one word more, and a piece after a piece.
-use mathlib.Core.Path.{◌≡◌, refl, sym, ap, ap₂, subst, ◌∙◌}
+use mathlib.Core.Path.{◌≡◌, refl, sym, ap, ap₂, ◌∙◌}
 use mathlib.Core.Bool.{false}
 use mathlib.Core.List.{List, [], ◌∷◌, ◌++◌, append_assoc}
 use Prim.Native.Nat.{ℕ, suc, ◌+◌, ◌-◌, ◌*◌, ◌/◌, ◌%◌, ◌^◌, ◌≤◌, ◌<◌}
 use native.Mathlib.Nat.{add_comm, add-mod, mod-mod, mul-add, add-mul, mul-le-mul}
 use native.Mathlib.Numerals.{towards_suc}
 use native.Mathlib.Omega.{arith}
-use lib.ListN.{length, take, drop, length-append, length-drop, length-take, take-append-drop}
+use lib.ListN.{length, take, drop, length-append, length-drop}
 use lib.Dec.{eqb}
-use lib.Seq.{drop-cons, take_all, take-append-add, drop-drop}
+use lib.Seq.{drop-cons, take_all, take-append-add}
 use borrow.Author.Tests.{le-leb, lt-leb, eq-eqb, ne_eqb}
 use Rattle.fields.specs.Header.{stored_checksum}
 use Rattle.fletcher.specs.Fletcher.{M, word, low, seal, fletcher, checksum, verifies}
@@ -163,19 +163,9 @@ added_then p q a b c h first second = record {
   fits = second.fits;
 }
 
--- a part of whole words of a piece, and then what is left of the piece
-pub added_part : (b : List ℕ) (at next : ℕ) (x y z : Sums) → (next - at) % 4 ≡ 0 → at ≤ next → next ≤ length b
-    → Added (take (next - at) (drop at b)) x y → Added (drop next b) y z → Added (drop at b) x z
-added_part b at next x y z h k k' part left = subst (λ (l : List ℕ). Added l x z) whole (added_then _ (drop next b) x y z e part left)
-  where
-    n : at + (next - at) ≡ next
-    n = omega arith
-
-    whole : take (next - at) (drop at b) ++ drop next b ≡ drop at b
-    whole = subst (λ (m : ℕ). take (next - at) (drop at b) ++ drop m b ≡ drop at b) n (rw (← drop-drop (next - at) at b) (take-append-drop (next - at) (drop at b)))
-
-    e : length (take (next - at) (drop at b)) % 4 ≡ 0
-    e = simp (length-take, length-drop) (omega arith)
+-- a block of whole words, the other blocks, and what is left after them
+pub added_block : (blocks block more rest : List ℕ) (x y z : Sums) → blocks ≡ block ++ more → length block % 4 ≡ 0 → Added block x y → Added (more ++ rest) y z → Added (blocks ++ rest) x z
+added_block blocks block more rest x y z cut whole first second = rw (cut, append_assoc) (added_then block (more ++ rest) x y z whole first second)
 
 -- the part from a place to the end
 pub part_end : (b : List ℕ) (at : ℕ) → take (length b - at) (drop at b) ≡ drop at b

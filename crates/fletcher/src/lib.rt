@@ -9,6 +9,12 @@ use fields::wide;
 
 const M: u64 = 4294967295;
 
+// Two words for each of two halves.
+const UNIT: usize = 16;
+
+// At most so many bytes are summed between two reductions: whole units.
+const BLOCK: usize = 4096;
+
 // s is the sum of the words, t the sum of the running sums.
 #[derive(Clone, Copy)]
 pub struct Sums {
@@ -26,23 +32,25 @@ fn word_at(bytes: &[u8], at: usize) -> u64
         + wide(bytes[at + 3]) * 16777216
 }
 
-// The sums modulo M: they count modulo M alone.
-fn reduced(sums: Sums) -> Sums
-    ensures { Added [] sums result }
-{
-    Sums {
-        s: sums.s % M,
-        t: sums.t % M,
+impl Sums {
+    // Modulo M: sums count modulo M alone.
+    fn reduced(self) -> Sums
+        ensures { Added [] self result }
+    {
+        Sums {
+            s: self.s % M,
+            t: self.t % M,
+        }
     }
-}
 
-// The word at a place, added.
-fn plus(bytes: &[u8], at: usize, sums: Sums) -> Sums
-    requires { (at + 4 ≤ length bytes.now) × (sums.s < 2 ^ 62) × (sums.t < 2 ^ 62) }
-    ensures { Plus bytes.now at sums result }
-{
-    let s = sums.s + word_at(bytes, at);
-    Sums { s, t: sums.t + s }
+    // The word at a place, added.
+    fn plus(self, bytes: &[u8], at: usize) -> Sums
+        requires { (at + 4 ≤ length bytes.now) × (self.s < 2 ^ 62) × (self.t < 2 ^ 62) }
+        ensures { Plus bytes.now at self result }
+    {
+        let s = self.s + word_at(bytes, at);
+        Sums { s, t: self.t + s }
+    }
 }
 
 // Two halves at once, so that neither's sums wait for the other's. The first's sum counts once more for each word of the second.
@@ -54,16 +62,16 @@ fn add_halves(first: &[u8], second: &[u8], sums: Sums) -> Sums
     let mut b = Sums { s: 0, t: 0 };
     let mut at = 0;
     while at != first.len() {
-        a = plus(first, at, a);
-        b = plus(second, at, b);
-        a = plus(first, at + 4, a);
-        b = plus(second, at + 4, b);
+        a = a.plus(first, at);
+        b = b.plus(second, at);
+        a = a.plus(first, at + 4);
+        b = b.plus(second, at + 4);
         at += 8;
     }
     let words = (at / 4) as u64;
     let s = a.s + b.s;
     let t = a.t + (words * a.s + b.t);
-    reduced(Sums { s, t })
+    Sums { s, t }.reduced()
 }
 
 fn add_block(block: &[u8], sums: Sums) -> Sums
@@ -74,14 +82,6 @@ fn add_block(block: &[u8], sums: Sums) -> Sums
     add_halves(&block[..half], &block[half..], sums)
 }
 
-// How many of the bytes left make the next block: at most 1,024 words, a multiple of 4 of them.
-fn block_length(left: usize) -> usize
-    requires { 16 ≤ left }
-    ensures { (16 ≤ result) × (result ≤ left) × (result ≤ 4096) × (result % 16 ≡ 0) }
-{
-    if left < 4096 { left / 16 * 16 } else { 4096 }
-}
-
 // What is left after the blocks.
 fn add_rest(rest: &[u8], sums: Sums) -> Sums
     requires { (length rest.now < 16) × Reduced sums }
@@ -90,31 +90,29 @@ fn add_rest(rest: &[u8], sums: Sums) -> Sums
     let mut sums = sums;
     let mut at = 0;
     while at + 4 <= rest.len() {
-        sums = plus(rest, at, sums);
+        sums = sums.plus(rest, at);
         at += 4;
     }
-    reduced(sums)
+    sums.reduced()
 }
 
 // The sums after the words of a piece; one to three bytes at its end that make no word aren't looked at.
 pub fn add(piece: &[u8], sums: Sums) -> Sums
     ensures { Added piece.now sums result }
 {
-    let mut sums = reduced(sums);
-    let mut at = 0;
-    while at + 16 <= piece.len() {
-        let end = at + block_length(piece.len() - at);
-        sums = add_block(&piece[at..end], sums);
-        at = end;
+    let (blocks, rest) = piece.split_at(piece.len() / UNIT * UNIT);
+    let mut sums = sums.reduced();
+    for block in blocks.chunks(BLOCK) {
+        sums = add_block(block, sums);
     }
-    add_rest(&piece[at..], sums)
+    add_rest(rest, sums)
 }
 
 // What bytes 0 to 7 should hold, from the sums.
 pub fn seal(sums: Sums) -> u64
     ensures { result ≡ seal_of sums.s sums.t }
 {
-    let sums = reduced(sums);
+    let sums = sums.reduced();
     let low = M - (sums.s + sums.t) % M;
     let high = M - (sums.s + low) % M;
     high * 4294967296 + low

@@ -1,10 +1,6 @@
 -- The walk on small tables, each way that it ends, and the audit of a manager's free list: the problems in their order, the figure,
 -- refusals. The sentences are document 02's.
-use mathlib.Core.Bool.{Bool}
-use mathlib.Core.List.{List, [], ◌∷◌, ◌++◌, map}
-use Prim.Native.Nat.{ℕ, ◌+◌, ◌*◌, ◌-◌, ◌^◌}
-use lib.Dec.{T}
-use lib.ListN.{take}
+use Rattle.std.proofs.Common.{Bool, List, [], ◌∷◌, ◌++◌, map, ℕ, ◌+◌, ◌*◌, ◌-◌, ◌^◌, T, take}
 use Rattle.fields.specs.Fields.{le, num, field_at}
 use Rattle.fields.proofs.Rows.{row, zeros, bytes_of, block_from, same, every}
 use Rattle.blocks.specs.Reads.{Outcome, given, refused, run, no_blocks, ◌>>=◌, need}

@@ -1,16 +1,8 @@
 -- Laws of sets of indices: a bit that is set, and the list that a set is of.
-use mathlib.Core.Path.{◌≡◌, refl, ap, ◌∙◌}
-use mathlib.Core.Bool.{Bool, true, false, not, ◌||◌}
-use mathlib.Core.List.{List, [], ◌∷◌, ◌++◌}
-use Prim.Native.Nat.{ℕ, zero, suc, ◌+◌, ◌*◌, ◌/◌, ◌%◌, ◌^◌, ◌<◌, max}
-use native.Mathlib.Nat.{mul-suc, mul-zero}
-use native.Mathlib.Omega.{arith}
-use lib.Bits.{bit_or, or_step, or_shr}
-use lib.Pow.{shl_exact}
-use lib.Dec.{T, eqb}
-use lib.ListN.{length, get_or, set, replicate, length-set, length-replicate, get_or-replicate}
-use lib.Seq.{get_or-set_same, get_or-set_other}
-use borrow.Author.Tests.{eq-eqb, ne_eqb, eqb-true, eqb-false}
+use Rattle.std.proofs.Common.{◌≡◌, refl, ap, ◌∙◌, Bool, true, false, not, ◌||◌, List, [], ◌∷◌, ◌++◌, ℕ, zero, suc, ◌+◌, ◌*◌, ◌/◌, ◌%◌, ◌^◌, ◌<◌, max, mul-suc, mul-zero, arith, bit_or, shl_exact, T, eqb, length, get_or, set, replicate, length-set, get_or-set_same, get_or-set_other, eq-eqb, ne_eqb, eqb-true}
+use lib.Bits.{or_step, or_shr}
+use lib.ListN.{length-replicate, get_or-replicate}
+use borrow.Author.Tests.{eqb-false}
 use Rattle.fields.specs.Fields.{num, bit, bit_at}
 use Rattle.fields.proofs.Laws.{bit_zero}
 use Rattle.fields.proofs.Tables.{below, at_below}

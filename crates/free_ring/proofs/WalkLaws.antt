@@ -1,26 +1,16 @@
 -- Laws of the code's loops: along the free list, and over the indices in use.
-use mathlib.Core.Path.{◌≡◌, refl, sym, ap, ◌∙◌}
-use mathlib.Core.Bool.{Bool, true, false}
-use mathlib.Core.List.{List, [], ◌∷◌, ◌++◌}
-use Prim.Native.Nat.{ℕ, suc, ◌+◌, ◌-◌, ◌*◌, ◌^◌, ◌≤◌, ◌<◌}
-use native.Mathlib.Numerals.{add-one}
-use native.Mathlib.Omega.{arith}
-use lib.ListN.{length, replicate, get_or-eq_default}
+use Rattle.std.proofs.Common.{◌≡◌, refl, sym, ap, ◌∙◌, Bool, true, false, List, [], ◌∷◌, ◌++◌, ℕ, suc, ◌+◌, ◌-◌, ◌*◌, ◌^◌, ◌≤◌, ◌<◌, add-one, arith, length, replicate}
+use lib.ListN.{get_or-eq_default}
 use Rattle.manager.proofs.ListLaws.{values_length, values_at}
 use Rattle.fields.specs.Fields.{bit_at}
 use Rattle.fields.specs.clauses.Numbers.{NumberAt}
-use Rattle.manager.specs.Manager.{pool_ring_blocks, free_head, free_tail, free_next_at}
 use Rattle.manager.specs.clauses.Lists.{values}
 use Rattle.free_ring.specs.Ring.{is_in, ended, ring_from}
-use Rattle.free_ring.specs.clauses.Walks.{free_list_in, Entry, steps_from, walk_of, Walks}
+use Rattle.free_ring.specs.clauses.Walks.{Entry, steps_from, walk_of, Walks}
 use Rattle.free_ring.specs.clauses.Sets.{set_bytes, Put, SetOf}
 use Rattle.free_ring.specs.declared.RingEnd.TheVariants.{Tail, Again, Outside}
 use Rattle.free_ring.proofs.RingLaws.{ring_outside, ring_again, ring_tail, ring_on, unseen, unseen_none, unseen_less, step_of, step_next, steps_more}
 use Rattle.free_ring.proofs.SetLaws.{clear_set, set_more, values_more}
-
--- the list, from what was read of it
-pub free_list_read : (sm : List ℕ) (head tail table blocks : ℕ) → head ≡ free_head sm → tail ≡ free_tail sm → table ≡ free_next_at sm → blocks ≡ pool_ring_blocks sm → record { head = head; tail = tail; table = table; blocks = blocks } ≡ free_list_in sm
-free_list_read sm head tail table blocks p q r s = rw (p, q, r, s) refl
 
 -- an entry of the table of n
 module _ (sm : List ℕ) (n at i : ℕ) where
@@ -84,7 +74,7 @@ module _ (next : List ℕ) (n head tail : ℕ) (seen : List ℕ) (i k : ℕ) (w 
           fuel : length next - k ≡ suc (length next - (k + 1))
           fuel = omega (arith, room, w.size)
 
--- the set of a list's first k values: none, one more, all of n
+-- the set of a list's first k values: none, and one more
 module _ (sm : List ℕ) (at : ℕ) (bits : List ℕ) where
   pub filled_none : SetOf bits [] → SetOf bits (values 2 sm 0 at)
   unfolding values
@@ -92,6 +82,3 @@ module _ (sm : List ℕ) (at : ℕ) (bits : List ℕ) where
 
   pub filled_more : (k i : ℕ) (after : List ℕ) → SetOf bits (values 2 sm k at) → NumberAt 2 sm (at + 2 * k) i → Put bits i after → SetOf after (values 2 sm (k + 1) at)
   filled_more k i after s n p = rw (add-one k, values_more 2 sm k at, ← n.is) (set_more _ _ _ _ s p)
-
-  pub filled_all : (n k : ℕ) → k ≤ n → n ≤ k → SetOf bits (values 2 sm k at) → SetOf bits (values 2 sm n at)
-  filled_all n k h l s = let e : n ≡ k = omega arith in rw e s

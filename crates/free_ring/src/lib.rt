@@ -8,8 +8,8 @@ mod walks;
 // A bit for each index of 16 bits.
 pub(crate) const SET_BYTES: usize = 8192;
 
-// The list of unused blocks as a manager has it: its first and last index, where the table that leads along it stands, and how many
-// blocks the ring has, for each of which the table has an entry.
+// The list of unused blocks as a manager has it: its first and last index, where the table that leads along it stands, and how
+// many blocks the ring has, for each of which the table has an entry.
 #[derive(Clone, Copy)]
 pub(crate) struct FreeList {
     pub head: u64,

@@ -13,10 +13,7 @@ pub(crate) fn set_bit(bits: &mut [u8], index: u64)
     requires { index < length bits.old * 8 }
     ensures { Put bits.old index bits.new }
 {
-    let j = (index / BYTE_BITS) as usize;
-    let k = (index % BYTE_BITS) as u8;
-    let b = bits[j];
-    bits[j] = b | 1 << k;
+    bits[(index / BYTE_BITS) as usize] |= 1 << (index % BYTE_BITS);
 }
 
 // The set of all indices in use, in bits that are clear.
@@ -24,11 +21,8 @@ pub(crate) fn in_use(image: &[u8], container: Container, place: PoolPlace, bits:
     requires { SetOf bits.old [] }
     ensures { SetOf bits.new (indices_on image container place) }
 {
-    let m = place.manager;
-    let mut k = 0;
-    while k < place.bitmaps {
-        let i = lists::index_at(image, container, m, place.indices, k);
-        set_bit(bits, i);
-        k += 1;
+    for k in 0..place.bitmaps {
+        let index = lists::index_at(image, container, place.manager, place.indices, k);
+        set_bit(bits, index);
     }
 }

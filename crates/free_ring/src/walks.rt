@@ -43,28 +43,20 @@ pub(crate) fn walk(image: &[u8], container: Container, manager: Manager, list: F
 {
     let mut seen = [0u8; SET_BYTES];
     let mut i = list.head;
-    let mut k = 0;
-    loop {
+    let mut count = 0;
+    let ending = loop {
         if list.blocks <= i {
-            return Walked {
-                ending: RingEnd::Outside,
-                count: k,
-            };
+            break RingEnd::Outside;
         }
         if fields::bit_at(&seen, i) {
-            return Walked {
-                ending: RingEnd::Again(i),
-                count: k,
-            };
+            break RingEnd::Again(i);
         }
         set_bit(&mut seen, i);
-        k += 1;
+        count += 1;
         if i == list.tail {
-            return Walked {
-                ending: RingEnd::Tail,
-                count: k,
-            };
+            break RingEnd::Tail;
         }
         i = next_index(image, container, manager, list, i);
-    }
+    };
+    Walked { ending, count }
 }

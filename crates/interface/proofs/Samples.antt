@@ -1,4 +1,5 @@
 -- An answer whose every figure but two is 100 more than its place: written out, they count up, so that each stands where its name says.
+use Rattle.std.specs.Prelude.{Err}
 use mathlib.Core.List.{List, [], ◌∷◌, ◌++◌, flat_map, flatten}
 use mathlib.Core.Path.{◌≡◌, refl}
 use Prim.Native.Nat.{ℕ, zero, suc, ◌+◌, ◌-◌}
@@ -6,7 +7,6 @@ use lib.ListN.{set}
 use Rattle.blocks.specs.declared.Refusal.TheVariants.{ShortMap}
 use Rattle.report.specs.Report.{logged, kinds, sum_of, ending_number}
 use Rattle.report.specs.declared.Answer.{Answer}
-use Rattle.report.specs.declared.Ending.TheVariants.{Refused}
 use Rattle.report.specs.declared.Lost.{Lost}
 use Rattle.report.specs.declared.Overlap.{Overlap}
 use Rattle.report.specs.declared.Problem.{Problem}
@@ -35,7 +35,7 @@ counting (suc k) n = n ∷ counting k (n + 1)
 abbrev sample : Answer
 sample =
     record {
-      ending = Refused ShortMap;
+      ending = Err ShortMap;
       report =
           record {
             xid = 100 + xid_at;

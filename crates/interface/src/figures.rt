@@ -8,9 +8,9 @@ ghost use Rattle.interface.specs.Figures.{problem_figures, overlap_figures, lost
 ghost use Rattle.interface.specs.Figures.{audit_figures, claim_figures, base_figures, later_figures, written};
 ghost use Rattle.interface.specs.clauses.Stored.{lost_number, Stores, later_at};
 
-use blocks::number_of;
+use blocks::{Refusal, number_of};
 use report::logs::overlap_total;
-use report::{Answer, Ending, KINDS, LOGGED, Lost, Overlap, Problem, Report};
+use report::{Answer, KINDS, LOGGED, Lost, Overlap, Problem, Report};
 
 // How many numbers a problem and an overlap have.
 const PROBLEM_FIGURES: usize = 2;
@@ -39,12 +39,12 @@ const FREE_RING: usize = 94;
 // Kinds whose numbers stand among the base's; those of later kinds follow at the end.
 const BASE_KINDS: usize = 9;
 
-fn ending_number(ending: Ending) -> u64
+fn ending_number(ending: Result<(), Refusal>) -> u64
     ensures { result ≡ ending_number ending }
 {
     match ending {
-        Ending::Done => 0,
-        Ending::Refused(r) => number_of(r) as u64,
+        Ok(()) => 0,
+        Err(r) => number_of(r) as u64,
     }
 }
 

@@ -1,5 +1,7 @@
 -- The totals of overlaps and of lost blocks that are printed are the sums of the counts printed below them. In the report of a pass
 -- either is below 2^64: overlaps, since 21 guards their sum; lost blocks, since a block has one owner, and so is lost once at most.
+use Rattle.std.specs.Prelude.{Option}
+use Rattle.checkpoint.specs.declared.Mapping.{Mapping}
 use mathlib.Core.Path.{◌≡◌, refl, sym, ap, ◌∙◌}
 use mathlib.Core.Bool.{Bool, true, false, not, ◌&&◌}
 use mathlib.Core.List.{List, [], ◌∷◌, ◌++◌, map}
@@ -12,7 +14,6 @@ use borrow.Author.Tests.{ne_eqb, eqb-true}
 use Rattle.fields.specs.Choice.{pick}
 use Rattle.blocks.specs.declared.Container.{Container}
 use Rattle.blocks.specs.declared.ObjectId.{ObjectId}
-use Rattle.checkpoint.specs.declared.Mapped.{Mapped}
 use Rattle.block_map.specs.BlockMap.{owner_of, is_marked, count_in}
 use Rattle.report.specs.Report.{kinds, sum_of, overlap_figure, zero_report}
 use Rattle.report.specs.declared.Answer.{Answer}
@@ -118,7 +119,7 @@ no_lost : Few zero_report.lost
 unfolding zero_report lost_in counts_of places_by_name
 no_lost = record { most = zero-le; summed = refl }
 
-few_lost : (c : Container) (sb : List ℕ) (mapped : ObjectId → Mapped) (map : List ℕ) → c.count ≤ 2 ^ 32 - 1 → Ends (λ s. Few s.figures.lost) (body c sb mapped map)
+few_lost : (c : Container) (sb : List ℕ) (mapped : ObjectId → Option Mapping) (map : List ℕ) → c.count ≤ 2 ^ 32 - 1 → Ends (λ s. Few s.figures.lost) (body c sb mapped map)
 unfolding body audit_and_claim claim_and_report report_of sums
 few_lost c sb mapped map few =
     ends_after _ _ _ (λ x.

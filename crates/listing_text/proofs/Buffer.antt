@@ -7,9 +7,15 @@ use Rattle.report.specs.declared.Answer.{Answer}
 use Rattle.listing_text.specs.Text.{numeral, Shortest}
 use Rattle.listing_text.specs.Listing.{answer_lines, listing_of}
 use Rattle.listing_text.specs.clauses.Writing.{Written, up_to, put, put_all}
-use Rattle.listing_text.proofs.Laws.{bytes_of, put_none, glue}
+use Rattle.listing_text.proofs.Laws.{put_none}
 use Rattle.listing_text.proofs.Digits.{shortest}
 use Rattle.listing_text.proofs.Room.{most_bytes, listing_fits}
+
+glue : {a a' b b' c c' : List ℕ} → a ≡ a' → b ≡ b' → c ≡ c' → (a ++ b) ++ c ≡ (a' ++ b') ++ c'
+glue p q r = λ i. (p i ++ q i) ++ r i
+
+abbrev bytes_of : Written → List ℕ
+bytes_of (up_to bytes end) = bytes
 
 abbrev end_of : Written → ℕ
 end_of (up_to bytes end) = end
@@ -120,3 +126,7 @@ module _ (a : Answer) (out after : List ℕ) (r : ℕ) (e : up_to after r ≡ pu
   pub listing_cut : length out < length (listing_of a) → r ≡ length out + 1
   unfolding listing_of Short
   listing_cut short = ap end_of e ∙ all_short (answer_lines a.ending a.report) out 0 (omega arith) (omega arith)
+
+-- a number in a base of this value
+pub put_based : (base b n : ℕ) (x w : Written) → x ≡ put (numeral base n) w → base ≡ b → x ≡ put (numeral b n) w
+put_based base b n x w p e = rw (← e) p

@@ -1,5 +1,7 @@
 -- Every listing has at most `most_bytes` bytes.
-use Rattle.std.proofs.Common.{◌≡◌, ℕ, zero, suc, ◌+◌, ◌-◌, ◌*◌, ◌^◌, ◌≤◌, min, Bool, true, false, eqb, ltb, leb, List, [], ◌∷◌, ◌++◌, length, get_or, take, sym, zero-le, le_trans, le_refl, zero-add, arith, lit≤, length-append, length-take}
+use Rattle.std.specs.Prelude.{Err, Ok, Result}
+use Rattle.blocks.specs.declared.Refusal.{Refusal}
+use Rattle.std.proofs.Common.{◌≡◌, ℕ, zero, suc, ◌+◌, ◌-◌, ◌*◌, ◌≤◌, min, Bool, true, false, T, eqb, leb, List, [], ◌∷◌, ◌++◌, length, get_or, take, sym, zero-le, le_trans, le_refl, zero-add, arith, lit≤, length-append, length-take}
 use mathlib.Core.List.{flat_map, flatten}
 use Rattle.fields.specs.Choice.{pick}
 use Rattle.blocks.specs.Refusals.{number_of}
@@ -9,29 +11,30 @@ use Rattle.report.specs.declared.Overlap.{Overlap}
 use Rattle.report.specs.declared.OverlapLog.{OverlapLog}
 use Rattle.report.specs.declared.Lost.{Lost}
 use Rattle.report.specs.declared.Report.{Report}
-use Rattle.report.specs.declared.Ending.{Ending}
-use Rattle.report.specs.declared.Ending.TheVariants.{Done, Refused}
 use Rattle.report.specs.declared.Answer.{Answer}
 use Rattle.totals.specs.Totals.{consistent}
-use Rattle.listing_text.specs.Text.{places_from, most_digits, places, numeral}
+use Rattle.listing_text.specs.Text.{most_digits, numeral}
 use Rattle.listing_text.specs.Lines.{decimal_sign, hex_sign, name_sign, kind_names, kind_name, piece, taken, filled_from, problem_formats, problem_format, last_format, title_line, pool_line, bitmaps_line, overlaps_line, lost_line, leaked_line, result_line, refused_line}
 use Rattle.listing_text.specs.Listing.{named, problem_line_of, Claimant, claimant_if, claimants_from, claimants_of, claimant_line_of, overlap_line_of, places_by_name, lost_at, lost_kind_line_of, lost_total, report_lines, answer_lines, listing_of}
-use Rattle.listing_text.proofs.Tables.{at_each}
-use Rattle.listing_text.proofs.Digits.{numeral_length}
+use Rattle.listing_text.proofs.Digits.{numeral_length, places_most}
+
+-- a test of every text
+abbrev all : (List ℕ → Bool) → List (List ℕ) → Bool
+all test [] = true
+all test (t ∷ ts) = pick (test t) (all test ts) false
+
+both : (a b : Bool) → T (pick a b false) → T a × T b
+both true b h = (tt, h)
+both false b h = absurd h
+
+at_each : (test : List ℕ → Bool) (texts : List (List ℕ)) (k : ℕ) → T (test []) → T (all test texts) → T (test (get_or texts k []))
+at_each test [] k none h = none
+at_each test (t ∷ ts) zero none h = (both (test t) (all test ts) h).0
+at_each test (t ∷ ts) (suc k) none h = at_each test ts k none (both (test t) (all test ts) h).1
 
 -- the most bytes of a piece: a number's, a name's, or one
-at_most : (t : Bool) (a b most : ℕ) → a ≤ most → b ≤ most → pick t a b ≤ most
-at_most true a b most h k = h
-at_most false a b most h k = k
-
-places_most : (more k base n : ℕ) → places_from more k base n ≤ k + more
-unfolding places_from
-places_most zero k base n = omega arith
-places_most (suc more) k base n = at_most (ltb n (base ^ k)) _ _ _ (omega arith) (omega (arith, places_most more (k + 1) base n))
-
 numeral_most : (base n : ℕ) → length (numeral base n) ≤ most_digits
-unfolding places
-numeral_most base n = omega (arith, numeral_length base n, places_most (most_digits - 1) 1 base n)
+numeral_most base n = omega (arith, numeral_length base n, places_most base n)
 
 -- the longest name of a kind
 abbrev name_bytes : ℕ
@@ -203,10 +206,10 @@ report_fits r =
     then leaked_fits r.leaked
     then result_fits r.verdict
 
-answer_fits : (e : Ending) (r : Report) → Fits most_lines (answer_lines e r)
+answer_fits : (e : Result (Unit {0}) Refusal) (r : Report) → Fits most_lines (answer_lines e r)
 unfolding answer_lines
-answer_fits Done r = report_fits r
-answer_fits (Refused f) r = record { most = le_trans (refused_fits (number_of f)).most (lit≤ tt) }
+answer_fits (Ok tt) r = report_fits r
+answer_fits (Err f) r = record { most = le_trans (refused_fits (number_of f)).most (lit≤ tt) }
 
 pub listing_fits : (a : Answer) → length (listing_of a) ≤ most_bytes
 unfolding listing_of

@@ -1,55 +1,13 @@
--- The rows of a table, found byte by byte; and that those of a table of texts are the texts.
-use Rattle.std.proofs.Common.{◌≡◌, ℕ, zero, suc, ◌+◌, ◌-◌, ◌<◌, ◌≤◌, Bool, true, false, T, eqb, List, [], ◌∷◌, ◌++◌, length, get_or, take, drop, sym, refl, ap, ◌∙◌, le_refl, lt_irrefl, add-one, arith, drop_of_length-le, drop-cons, take_at, eq-eqb, ne_eqb}
+-- A table of texts in one list of bytes, a newline behind each: its rows are the texts.
+use Rattle.std.proofs.Common.{◌≡◌, ℕ, zero, suc, ◌+◌, Bool, true, false, T, eqb, List, [], ◌∷◌, ◌++◌, length, get_or, sym, refl, ap, ◌∙◌, add-one, take_at}
 use Rattle.fields.specs.Choice.{pick}
-use Rattle.listing_text.specs.clauses.Tables.{newline, left_after, past_row, rows_from, row_length, row_of}
+use Rattle.listing_text.specs.clauses.Tables.{newline, past_row, rows_from, row_length, row_of}
 
--- rows to pass: none is left, or there is no byte more, or one more byte is looked at
+-- no byte is left to pass
 no_rows : (k : ℕ) → rows_from k [] ≡ []
 unfolding rows_from past_row
 no_rows zero = refl
 no_rows (suc k) = no_rows k
-
-step : (left c : ℕ) (cs : List ℕ) → 0 < left → rows_from (left_after left c) cs ≡ rows_from left (c ∷ cs)
-unfolding rows_from left_after past_row
-step zero c cs some = absurd (lt_irrefl 0 some)
-step (suc k) c cs some = go (eqb c newline)
-  where
-    go : (t : Bool) → rows_from (pick t (suc k - 1) (suc k)) cs ≡ rows_from k (pick t cs (past_row cs))
-    go true = ap (λ (n : ℕ). rows_from n cs) {x = suc k - 1} {y = k} (omega arith)
-    go false = refl
-
-module _ (rows : List ℕ) (left i : ℕ) (whole : List ℕ) (e : rows_from left (drop i rows) ≡ whole) where
-  pub start_found : left ≡ 0 → drop i rows ≡ whole
-  unfolding rows_from
-  start_found z = sym (ap (λ (k : ℕ). rows_from k (drop i rows)) z) ∙ e
-
-  pub start_past : length rows ≤ i → drop (length rows) rows ≡ whole
-  start_past h = drop_of_length-le rows (le_refl _) ∙ sym (no_rows left) ∙ ap (rows_from left) (sym (drop_of_length-le rows h)) ∙ e
-
-  pub start_on : (next c : ℕ) → i < length rows → 0 < left → c ≡ get_or rows i 0 → next ≡ left_after left c → rows_from next (drop (i + 1) rows) ≡ whole
-  start_on next c h some ec en =
-      rw (en, ec, add-one i) (step left (get_or rows i 0) (drop (suc i) rows) some)
-      ∙ ap (rows_from left) (sym (drop-cons rows i 0 h))
-      ∙ e
-
--- a row's bytes: one more, or its newline, or none is left
-module _ (rows : List ℕ) (so_far i whole : ℕ) (e : whole ≡ so_far + row_length (drop i rows)) where
-  pub row_past : length rows ≤ i → so_far ≡ whole
-  unfolding row_length
-  row_past h = sym (e ∙ rw (drop_of_length-le rows h) (omega arith))
-
-  pub row_ends : i < length rows → get_or rows i 0 ≡ newline → so_far ≡ whole
-  unfolding row_length
-  row_ends h n = sym (e ∙ rw (drop-cons rows i 0 h, eq-eqb (get_or rows i 0) newline n) (omega arith))
-
-  pub row_on : i < length rows → (get_or rows i 0 ≡ newline → ⊥) → whole ≡ so_far + 1 + row_length (drop (i + 1) rows)
-  unfolding row_length
-  row_on h n = e ∙ rw (drop-cons rows i 0 h, ne_eqb (get_or rows i 0) newline n, add-one i) (omega arith)
-
-pub row_found : (rows r : List ℕ) (k start n : ℕ) → drop start rows ≡ rows_from k rows → n ≡ row_length (drop start rows) → r ≡ take n (drop start rows)
-    → r ≡ row_of k rows
-unfolding row_of
-row_found rows r k start n p q e = e ∙ rw (q, p) refl
 
 -- the table of some texts, none of which has a newline in it
 abbrev pub table : List (List ℕ) → List ℕ
@@ -68,11 +26,6 @@ all test (t ∷ ts) = pick (test t) (all test ts) false
 both : (a b : Bool) → T (pick a b false) → T a × T b
 both true b h = (tt, h)
 both false b h = absurd h
-
-pub at_each : (test : List ℕ → Bool) (texts : List (List ℕ)) (k : ℕ) → T (test []) → T (all test texts) → T (test (get_or texts k []))
-at_each test [] k none h = none
-at_each test (t ∷ ts) zero none h = (both (test t) (all test ts) h).0
-at_each test (t ∷ ts) (suc k) none h = at_each test ts k none (both (test t) (all test ts) h).1
 
 plain_cons : (a b : Bool) → T (pick a false b) → (a ≡ false) × T b
 plain_cons true b h = absurd h

@@ -1,4 +1,6 @@
 -- The listing of an answer: its lines in the order of document 01's sample.
+use Rattle.std.specs.Prelude.{Err, Ok, Result}
+use Rattle.blocks.specs.declared.Refusal.{Refusal}
 use Rattle.std.specs.Prelude.{ℕ, ◌+◌, ◌%◌, ◌^◌, min, List, [], ◌∷◌, ◌++◌, take, ◌==◌, slice_index_or}
 use mathlib.Core.List.{flat_map, flatten}
 use Rattle.fields.specs.Choice.{pick}
@@ -9,8 +11,6 @@ use Rattle.report.specs.declared.Overlap.{Overlap}
 use Rattle.report.specs.declared.OverlapLog.{OverlapLog}
 use Rattle.report.specs.declared.Lost.{Lost}
 use Rattle.report.specs.declared.Report.{Report}
-use Rattle.report.specs.declared.Ending.{Ending}
-use Rattle.report.specs.declared.Ending.TheVariants.{Done, Refused}
 use Rattle.report.specs.declared.Answer.{Answer}
 use Rattle.totals.specs.Totals.{lost_in}
 use Rattle.listing_text.specs.Lines.{title_line, pool_line, problem_line, bitmaps_line, overlaps_line, claimant_line, overlap_line, lost_line, lost_kind_line, leaked_line, result_line, refused_line}
@@ -76,9 +76,9 @@ report_lines r =
     ++ leaked_line r.leaked
     ++ result_line r.verdict
 
-unfoldable pub answer_lines : Ending → Report → List (List ℕ)
-answer_lines Done report = report_lines report
-answer_lines (Refused r) report = refused_line (number_of r)
+unfoldable pub answer_lines : Result (Unit {0}) Refusal → Report → List (List ℕ)
+answer_lines (Ok tt) report = report_lines report
+answer_lines (Err r) report = refused_line (number_of r)
 
 -- the bytes printed
 unfoldable pub listing_of : Answer → List ℕ

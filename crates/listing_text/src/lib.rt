@@ -1,10 +1,9 @@
-// The text of the listing (dump.rs, `space_check_container`), written into a lent buffer piece after piece: what writes one at a place
-// answers the place after it, or, where the piece has no room, the buffer's length + 1, so that what follows has none either.
+// The text of the listing (dump.rs, `space_check_container`), put piece after piece on a page, which is a lent buffer.
 #![tactic(auto)]
 
 mod formats;
 mod lines;
 pub mod listing;
+mod names;
 mod numerals;
-mod rows;
-mod text;
+mod page;

@@ -1,59 +1,49 @@
-// A number in a lent buffer, digit by digit at its place.
-ghost use Rattle.std.specs.Prelude.{◌≡◌, ◌+◌, ◌<◌, ◌≤◌, length};
-ghost use Rattle.std.proofs.Math.Seq.{paste};
-ghost use Rattle.blocks.specs.clauses.Images.{bytes_lent};
+// A number in its shortest form.
+ghost use Rattle.std.specs.Prelude.{◌≡◌, ◌<◌, length, [], ◌∷◌};
 ghost use Rattle.listing_text.specs.Text.{glyph as Text·glyph, digits, places as Text·places, numeral};
-ghost use Rattle.listing_text.specs.clauses.Writing.{Base, up_to, put};
+ghost use Rattle.listing_text.specs.clauses.Writing.{Base, Adds};
+
+use crate::page::Page;
 
 fn glyph(value: u64) -> u8
     requires { value < 16 }
     ensures { result ≡ Text·glyph value }
 {
-    let glyphs = b"0123456789abcdef";
-    glyphs[value as usize]
+    b"0123456789abcdef"[value as usize]
 }
 
-// How many digits a number has.
+// How many digits a number has; 0 has one as 1 has.
 fn places(base: u64, figure: u64) -> usize
     requires { Base base }
     ensures { result ≡ Text·places base figure }
 {
-    let mut k = 1;
-    let mut rest = figure / base;
-    while rest != 0 {
-        rest = rest / base;
-        k += 1;
-    }
-    k
+    figure.max(1).ilog(base) as usize + 1
 }
 
-// The last k digits of a number, from the lowest place up.
-fn put_digits(out: &mut [u8], at: usize, base: u64, k: usize, figure: u64)
-    requires { Base base × (at + k ≤ length out.old) }
-    ensures { out.new ≡ paste (bytes_lent out) at (digits base k figure) k }
-{
-    let mut left = k;
-    let mut rest = figure;
-    while left != 0 {
-        left -= 1;
-        out[at + left] = glyph(rest % base);
-        rest = rest / base;
-    }
-}
-
-// Counted first: without room no byte may change.
-pub(crate) fn put_numeral(out: &mut [u8], at: usize, base: u64, figure: u64) -> usize
+// The last digits of a number, as many as there is room for, from the lowest place up.
+fn put_digits(out: &mut [u8], base: u64, figure: u64)
     requires { Base base }
-    ensures { up_to out.new result ≡ put (numeral base figure) (up_to (bytes_lent out) at) }
+    ensures { out.new ≡ digits base (length out.old) figure }
 {
-    let end = out.len();
-    if end < at {
-        return end + 1;
+    let mut rest = figure;
+    for i in (0..out.len()).rev() {
+        out[i] = glyph(rest % base);
+        rest /= base;
     }
-    let k = places(base, figure);
-    if end - at < k {
-        return end + 1;
+}
+
+impl Page<'_> {
+    // Counted first: without room no byte may change. No array holds the digits in between.
+    pub(crate) fn put_numeral(&mut self, base: u64, figure: u64)
+        requires { Base base }
+        ensures { Adds self.old self.new (numeral base figure ∷ []) }
+    {
+        let end = self.at.saturating_add(places(base, figure));
+        if end > self.out.len() {
+            self.at = self.out.len() + 1;
+            return;
+        }
+        put_digits(&mut self.out[self.at..end], base, figure);
+        self.at = end;
     }
-    put_digits(out, at, base, k, figure);
-    at + k
 }

@@ -4,7 +4,7 @@ use mathlib.Core.Bool.{true}
 use mathlib.Core.List.{List, []}
 use Prim.Native.Nat.{ℕ, zero, suc, ◌+◌, ◌-◌, ◌*◌, ◌/◌, ◌%◌, ◌^◌, ◌≤◌, ◌<◌, min}
 use native.Mathlib.Omega.{arith}
-use native.Mathlib.Nat.{lt_of_lt_of_le, mul-suc, mod-lt, add-mod, add-zero, mul-add-div_right, mul-add-mod_self_right, div-add-mod', div-eq_of_lt, mod-eq_of_lt}
+use native.Mathlib.Nat.{lt_of_lt_of_le, mul-suc, add-zero, mul-add-div_right, mul-add-mod_self_right, div-add-mod', div-eq_of_lt, mod-eq_of_lt}
 use lib.Dec.{leb}
 use lib.ListN.{length, take, drop, get_or, length-take, length-drop, get_or-eq_default, drop_of_length-le}
 use lib.Seq.{take-nil, get_or-take, get_or-drop, ext_get_or}
@@ -12,27 +12,10 @@ use lib.Pow.{pow-add, pow_mono}
 use borrow.Author.Tests.{leb-true}
 use Rattle.fields.specs.clauses.Numbers.{NumberAt}
 use Rattle.fields.specs.Fields.{le, num}
+use Rattle.fields.proofs.Laws.{num_more}
 use Rattle.blocks.specs.Blocks.{block_of}
-use Rattle.manager.specs.Manager.{ring_length}
-use Rattle.manager.specs.clauses.Place.{ring_index, address_in, byte_in, bytes_from, placed, bytes_of}
+use Rattle.manager.specs.clauses.Place.{address_in, byte_in, bytes_from, placed, bytes_of}
 use Rattle.manager.specs.declared.Manager.{Manager}
-
--- the place in the ring, each part reduced first
-module _ (m : Manager) (i ring : ℕ) (e : ring ≡ ring_length m.blocks) where
-  pub ring_fits : (a : ℕ) → a % ring + i % ring < 2 ^ 64
-  ring_fits a = omega (arith, mod-lt a some, mod-lt i some)
-    where
-      some : 0 < ring
-      some = omega arith
-
-  pub ring_below : m.at.0 < m.base → i % ring ≡ ring_index m i
-  ring_below h = rw (none, e) (ap (λ (n : ℕ). n % ring_length m.blocks) (omega arith))
-    where
-      none : m.at.0 - m.base ≡ 0
-      none = omega arith
-
-  pub ring_sum : ((m.at.0 - m.base) % ring + i % ring) % ring ≡ ring_index m i
-  ring_sum = sym (add-mod (m.at.0 - m.base) i ring) ∙ rw e refl
 
 -- as many bytes as the manager has, each where its block is
 module _ (f : ℕ → List ℕ) (size : ℕ) (m : Manager) where
@@ -70,7 +53,7 @@ module _ (image : List ℕ) (size : ℕ) (m : Manager) (j : ℕ) (h : j < m.size
 
 -- a byte of the manager's block n
 module _ (f : ℕ → List ℕ) (size : ℕ) (m : Manager) where
-  pub byte_of : (n k : ℕ) → k < size → byte_in f size m (n * size + k) ≡ get_or (f (address_in m n)) k 0
+  byte_of : (n k : ℕ) → k < size → byte_in f size m (n * size + k) ≡ get_or (f (address_in m n)) k 0
   unfolding byte_in
   byte_of n k h = rw (mul-add-div_right {m = size} (omega arith) n k, div-eq_of_lt h, add-zero n, mul-add-mod_self_right n size k, mod-eq_of_lt h) refl
 
@@ -100,12 +83,13 @@ block_past image (suc size) n h = rw (drop_of_length-le image past, take-nil) re
     past : length image ≤ n * suc size
     past = rw (mul-suc n size) (omega arith)
 
--- one byte more fits one byte more
-pub more_fits : (w k v b : ℕ) → 0 < k → k ≤ w → v < 2 ^ (8 * (w - k)) → b < 256 → v * 256 + b < 2 ^ (8 * (w - (k - 1)))
-more_fits w k v b h l fits small = rw (e, pow-add 2 (8 * (w - k)) 8) (omega arith)
-  where
-    e : 8 * (w - (k - 1)) ≡ 8 * (w - k) + 8
-    e = omega arith
+-- a number with one byte more before it
+pub number_more : (sm : List ℕ) (off w k v b : ℕ) → 0 < k → k ≤ w → NumberAt (w - k) sm (off + k) v → b ≡ get_or sm (off + (k - 1)) 0 → b < 256
+    → NumberAt (w - (k - 1)) sm (off + (k - 1)) (v * 256 + b)
+number_more sm off w k v b h l n is small = record {
+  is = rw (num_more sm off w k h l) (rw (n.is, is));
+  fits = let e : 8 * (w - (k - 1)) ≡ 8 * (w - k) + 8 = omega arith in rw (e, pow-add 2 (8 * (w - k)) 8) (omega (arith, n.fits));
+}
 
 -- a turn of the reader's loop finds at most seven bytes read
 pub room : (w k v : ℕ) → w ≤ 8 → 0 < k → v < 2 ^ (8 * (w - k)) → v < 2 ^ 56

@@ -1,39 +1,33 @@
 -- Laws of lists read in place: a list exists whole where its last byte does, and its entries stand one after another.
 use mathlib.Core.Path.{◌≡◌, refl, sym, ap, ◌∙◌}
-use mathlib.Core.Bool.{Bool, true, false}
 use mathlib.Core.List.{List}
-use Prim.Native.Nat.{ℕ, zero, suc, ◌+◌, ◌-◌, ◌*◌, ◌/◌, ◌^◌, ◌≤◌, ◌<◌}
+use Prim.Native.Nat.{ℕ, zero, suc, ◌+◌, ◌-◌, ◌*◌, ◌^◌, ◌≤◌, ◌<◌}
 use native.Mathlib.Decide.{dec_le}
-use native.Mathlib.Nat.{mul-suc, mul-zero, mul_comm, div-lt_iff_lt-mul, le-div_iff_mul-le}
+use native.Mathlib.Nat.{mul-suc, mul-zero}
 use native.Mathlib.Omega.{arith}
 use lib.ListN.{length, get_or, drop_of_length-le}
 use lib.Bits.{bit_and, and_mask}
 use lib.Pow.{pow_pos}
 use lib.Seq.{take-nil}
 use borrow.Author.Tests.{le-leb, lt-leb}
-use Rattle.fields.specs.Choice.{pick}
 use Rattle.fields.specs.clauses.Numbers.{NumberAt}
 use Rattle.fields.specs.Fields.{num, le}
 use Rattle.fields.proofs.Laws.{field_there, field_absent}
 use Rattle.blocks.specs.Reads.{run, given, refused}
 use Rattle.blocks.specs.Blocks.{field, present}
-use Rattle.blocks.specs.declared.Address.{Address}
-use Rattle.blocks.specs.declared.Presence.{Presence}
 use Rattle.blocks.specs.declared.Refusal.TheVariants.{OutsideBytes}
 use Rattle.blocks.proofs.Laws.{then_given, then_refused, need_true, need_false}
-use Rattle.manager.specs.Manager.{list_from, listed_at, listed_count, address_count, addresses_at}
+use Rattle.manager.specs.Manager.{list_from}
 use Rattle.manager.specs.Chunks.{chunk_at, chunks_from}
-use Rattle.manager.specs.clauses.Lists.{values, records, FieldsSeen, held, listed_in, addresses_in}
-use Rattle.manager.specs.clauses.Place.{placed}
-use Rattle.manager.specs.declared.Chunk.{Chunk}
-use Rattle.manager.specs.declared.Holder.{Holder}
-use Rattle.manager.specs.declared.Holder.TheVariants.{InManager, InBlock}
-use Rattle.manager.specs.declared.Manager.{Manager}
+use Rattle.manager.specs.clauses.Lists.{values, records}
 
 -- past the end all bytes count 0
-pub num_past : (w : ℕ) (b : List ℕ) (off : ℕ) → length b ≤ off → num w b off ≡ 0
+num_past : (w : ℕ) (b : List ℕ) (off : ℕ) → length b ≤ off → num w b off ≡ 0
 unfolding num le
 num_past w b off h = rw (drop_of_length-le b h, take-nil) refl
+
+pub number_past : (w : ℕ) (b : List ℕ) (off : ℕ) → length b ≤ off → NumberAt w b off 0
+number_past w b off h = record { is = sym (num_past w b off h); fits = pow_pos (8 * w) }
 
 -- where a list is longer than its first entry, it has a second
 positive : (w n off len : ℕ) → off + w ≤ len → len < off + w * suc n → 0 < n
@@ -49,10 +43,6 @@ module _ (f : ℕ → List ℕ) (w : ℕ) (sm : List ℕ) where
   field_refused : (off : ℕ) → length sm < off + w → run f (field w sm off) ≡ refused OutsideBytes
   unfolding run field present
   field_refused off h = rw (field_absent w sm off h) refl
-
-  pub list_none : (n off : ℕ) → n ≡ 0 → run f (list_from w sm n off) ≡ given (values w sm n off)
-  unfolding run list_from values
-  list_none n off e = rw e refl
 
   pub list_fits : (n off : ℕ) → off + w * n ≤ length sm → run f (list_from w sm n off) ≡ given (values w sm n off)
   unfolding run list_from values
@@ -73,55 +63,6 @@ module _ (f : ℕ → List ℕ) (w : ℕ) (sm : List ℕ) where
           then_given f _ _ _ (field_given off l)
           ∙ then_refused f _ _ _ (again (positive w n off _ l h) (omega (arith, mul-suc w n)))
 
--- the one test of a list, in size bytes
-module _ (f : ℕ → List ℕ) (w size at n : ℕ) (sm : List ℕ) (some : 0 < w) (e : length sm ≡ size) where
-  pub list_there : at ≤ size → n ≤ (size - at) / w → run f (list_from w sm n at) ≡ given (values w sm n at)
-  list_there h k = list_fits f w sm n at (omega (arith, (le-div_iff_mul-le some).0 k, mul_comm w n))
-
-  pub list_absent : 0 < n → at ≤ size → (size - at) / w < n → run f (list_from w sm n at) ≡ refused OutsideBytes
-  list_absent h k l = list_outside f w sm n at h (omega (arith, (div-lt_iff_lt-mul some).0 l, mul_comm w n))
-
--- the place of entry i, where it fits a number, and what is read where it does not
-module _ (w at i : ℕ) (some : 0 < w) (fits : at < 2 ^ 64) where
-  pub entry_fits : i ≤ (2 ^ 64 - 1 - at) / w → at + w * i < 2 ^ 64
-  entry_fits h = omega (arith, (le-div_iff_mul-le some).0 h, mul_comm w i)
-
-  pub entry_past : (sm : List ℕ) (size : ℕ) → length sm ≡ size → size < 2 ^ 64 → (2 ^ 64 - 1 - at) / w < i → num w sm (at + w * i) ≡ 0
-  entry_past sm size e k h = num_past w sm (at + w * i) (omega (arith, (div-lt_iff_lt-mul some).0 h, mul_comm w i))
-
--- how many the main device's list has
-pub counted_true : (t : Bool) (r a b : ℕ) → t ≡ true → r ≡ a → r ≡ pick t a b
-counted_true t r a b e q = q ∙ rw e refl
-
-pub counted_false : (t : Bool) (r a b : ℕ) → t ≡ false → r ≡ b → r ≡ pick t a b
-counted_false t r a b e q = q ∙ rw e refl
-
--- a list of addresses, from what was read of it
-pub listed_read : (sm : List ℕ) (m : Manager) (at count : ℕ) → at ≡ listed_at sm → count ≡ listed_count sm → record { holder = InManager m; at = at; count = count } ≡ listed_in sm m
-listed_read sm m at count p q = rw (p, q) refl
-
-pub addresses_read : (b whole : List ℕ) (a : Address) (count : ℕ) → b ≡ whole → count ≡ address_count b → record { holder = InBlock a; at = addresses_at; count = count } ≡ addresses_in whole a
-addresses_read b whole a count p q = rw (q, p) refl
-
--- what holds it
-module _ (f : ℕ → List ℕ) (size : ℕ) (h : Holder) where
-  pub held_manager : (m : Manager) → h ≡ InManager m → placed f size m ≡ held f size h
-  held_manager m e = rw e refl
-
-  pub held_block : (a : Address) (b : List ℕ) → h ≡ InBlock a → b ≡ f a.0 → b ≡ held f size h
-  held_block a b e q = q ∙ rw e refl
-
--- the same number, of bytes that are the same
-pub number_in : (w off r : ℕ) (b whole : List ℕ) → b ≡ whole → NumberAt w b off r → NumberAt w whole off r
-number_in w off r b whole e h = rw e at h
-
--- a count and a start as they were read
-pub list_read : (w : ℕ) (sm : List ℕ) (n at count start : ℕ) (r : Presence) → n ≡ count → at ≡ start → FieldsSeen w sm n at r → FieldsSeen w sm count start r
-list_read w sm n at count start r p q h = rw (← p, ← q) h
-
-pub entry_none : (w : ℕ) (sm : List ℕ) (off : ℕ) → num w sm off ≡ 0 → NumberAt w sm off 0
-entry_none w sm off e = record { is = sym e; fits = pow_pos (8 * w) }
-
 -- what a list holds
 pub values_length : (w : ℕ) (sm : List ℕ) (n off : ℕ) → length (values w sm n off) ≡ n
 unfolding values
@@ -136,10 +77,6 @@ values_at w sm (suc n) off (suc i) h = values_at w sm n (off + w) i (omega arith
 
 -- the records of chunks
 module _ (f : ℕ → List ℕ) (b : List ℕ) where
-  pub chunks_none : (n e : ℕ) → n ≡ 0 → run f (chunks_from b n e) ≡ given (records b n e)
-  unfolding run chunks_from records
-  chunks_none n e z = rw z refl
-
   pub chunks_fit : (n e : ℕ) → e + 32 * n ≤ length b → run f (chunks_from b n e) ≡ given (records b n e)
   unfolding run chunks_from records
   chunks_fit zero e h = refl
@@ -154,17 +91,6 @@ module _ (f : ℕ → List ℕ) (b : List ℕ) where
           → run f (chunks_from b (suc n) e) ≡ refused OutsideBytes
       go (no l) again = need_false f _ _ _ (lt-leb (e + 32) (length b) (omega arith))
       go (yes l) again = need_true f _ _ _ (le-leb _ _ l) ∙ then_refused f _ _ _ (again (omega arith) (omega arith))
-
-pub records_length : (b : List ℕ) (n e : ℕ) → length (records b n e) ≡ n
-unfolding records
-records_length b zero e = refl
-records_length b (suc n) e = ap suc (records_length b n (e + 32))
-
-pub records_at : (b : List ℕ) (n e i : ℕ) (none : Chunk) → i < n → get_or (records b n e) i none ≡ chunk_at b (e + 32 * i)
-unfolding records
-records_at b zero e i none h = elim h [ ]
-records_at b (suc n) e zero none h = ap (chunk_at b) (omega arith)
-records_at b (suc n) e (suc i) none h = records_at b n (e + 32) i none (omega arith) ∙ ap (chunk_at b) (omega arith)
 
 -- a record from its fields, and one past the end
 module _ (b : List ℕ) (e : ℕ) where

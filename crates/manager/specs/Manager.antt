@@ -1,5 +1,5 @@
 -- The space manager's bytes, its fields and lists, and the list of an address block.
-use Rattle.std.specs.Prelude.{Bool, List, [], ◌∷◌, ◌++◌, ℕ, zero, suc, ◌+◌, ◌-◌, ◌/◌, ◌%◌, max, leb, ltb, length, take}
+use Rattle.std.specs.Prelude.{Bool, Option, Some, None, List, [], ◌∷◌, ◌++◌, ℕ, zero, suc, ◌+◌, ◌-◌, ◌/◌, ◌%◌, max, leb, ltb, length, take}
 use Rattle.fields.specs.Choice.{pick}
 use Rattle.fields.specs.Fields.{num}
 use Rattle.fletcher.specs.Fletcher.{verifies}
@@ -10,8 +10,6 @@ use Rattle.blocks.specs.declared.ObjectId.{ObjectId}
 use Rattle.blocks.specs.declared.Refusal.TheVariants.{BadChecksum, Unmapped, OutsideBytes, Overflow}
 use Rattle.checkpoint.specs.Superblock.{data_base, data_blocks, manager_id, without_top_bit}
 use Rattle.checkpoint.specs.declared.Mapping.{Mapping}
-use Rattle.checkpoint.specs.declared.Mapped.{Mapped}
-use Rattle.checkpoint.specs.declared.Mapped.TheVariants.{To, Nowhere}
 
 -- the main device: its chunk-info blocks, its address blocks, its free blocks, and where its list stands
 abbrev pub chunk_info_count : List ℕ → ℕ
@@ -100,12 +98,12 @@ unfoldable pub manager_at : Container → List ℕ → Mapping → Reads (List �
 manager_at c sb m = manager_from c sb m.address.0 (blocks_for c m.size) 0 [] >>= λ bs. accepted (take m.size bs)
 
 -- "16. A needed object id isn't in the checkpoint map."
-unfoldable pub manager_by : Container → List ℕ → Mapped → Reads (List ℕ)
-manager_by c sb Nowhere = refuse Unmapped
-manager_by c sb (To m) = manager_at c sb m
+unfoldable pub manager_by : Container → List ℕ → Option Mapping → Reads (List ℕ)
+manager_by c sb None = refuse Unmapped
+manager_by c sb (Some m) = manager_at c sb m
 
 -- the manager that the superblock names by its id; mapped is what the checkpoint map has for one
-unfoldable pub manager : Container → List ℕ → (ObjectId → Mapped) → Reads (List ℕ)
+unfoldable pub manager : Container → List ℕ → (ObjectId → Option Mapping) → Reads (List ℕ)
 manager c sb mapped = manager_by c sb (mapped (manager_id sb))
 
 -- "A list of indices, addresses or records is read whole before the first block it names": left fields of w bytes from off on

@@ -8,7 +8,7 @@ ghost use Rattle.manager.specs.clauses.Lists.{held_on, listed_in, addresses_in, 
 
 use crate::offsets::{ADDRESS_BLOCKS, CHUNK_INFO_COUNT, LISTED_AT};
 use crate::{AddressList, Holder, Manager, lists, place};
-use blocks::{Address, Container, Presence};
+use blocks::{Address, Container, Refusal};
 
 // How wide an address is.
 const WIDTH: u64 = 8;
@@ -72,30 +72,28 @@ fn bytes_held(image: &[u8], container: Container, holder: Holder) -> u64
 }
 
 // Whether the addresses of a list may all be read.
-pub fn addresses_there(image: &[u8], container: Container, list: AddressList) -> Presence
+pub fn addresses_there(image: &[u8], container: Container, list: AddressList) -> Result<(), Refusal>
     ensures { AddressesSeen image container list result }
 {
-    let holder = list.holder;
-    let size = bytes_held(image, container, holder);
+    let size = bytes_held(image, container, list.holder);
     lists::list_there(size, WIDTH, list.at, list.count)
 }
 
-// Entry index of the list at an offset of a block; one past 2^64 is past the block's end, and counts 0.
+// Entry index of the list at an offset of a block; one past the block's end counts 0.
 fn block_entry(block: &[u8], at: u64, index: u64) -> u64
     ensures { NumberAt 8 (bytes block) (at + 8 * index) result }
 {
-    if (u64::MAX - at) / WIDTH < index {
-        return 0;
+    match lists::entry_at(at, WIDTH, index) {
+        Some(off) => fields::u64_of(block, off as usize),
+        None => 0,
     }
-    fields::u64_of(block, (at + WIDTH * index) as usize)
 }
 
 // Entry index of a list.
 pub fn address_at(image: &[u8], container: Container, list: AddressList, index: u64) -> Address
     ensures { AddressRead image container list index result.0 }
 {
-    let holder = list.holder;
-    match holder {
+    match list.holder {
         Holder::InManager(m) => Address(lists::entry(image, container, m, WIDTH, list.at, index)),
         Holder::InBlock(a) => {
             let block = blocks::block(image, container.size, a);

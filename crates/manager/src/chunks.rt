@@ -5,7 +5,7 @@ ghost use Rattle.manager.specs.Chunks.{chunks_at, chunk_length, chunk_at};
 ghost use Rattle.manager.specs.clauses.Lists.{ChunksSeen};
 
 use crate::Chunk;
-use blocks::{Address, Presence, Refusal};
+use blocks::{Address, Refusal};
 
 // Where a chunk-info block counts its records.
 pub const COUNT: usize = 36;
@@ -27,17 +27,17 @@ const BITMAP: usize = 24;
 const LOW_20: u64 = 0xfffff;
 
 // Whether a block holds all its records: one test, and not a walk.
-pub fn chunks_there(block: &[u8]) -> Presence
+pub fn chunks_there(block: &[u8]) -> Result<(), Refusal>
     ensures { ChunksSeen (bytes block) result }
 {
     let count = fields::u32_of(block, COUNT) as usize;
     if count == 0 {
-        return Presence::There;
+        return Ok(());
     }
     if block.len() < RECORDS + RECORD_LENGTH * count {
-        return Presence::Refused(Refusal::OutsideBytes);
+        return Err(Refusal::OutsideBytes);
     }
-    Presence::There
+    Ok(())
 }
 
 // Record index; all zeros past the block's end, as its fields are.

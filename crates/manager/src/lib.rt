@@ -42,9 +42,3 @@ pub struct AddressList {
     pub at: u64,
     pub count: u64,
 }
-
-#[derive(Clone, Copy)]
-pub enum ManagerAnswer {
-    Given(Manager),
-    Refused(Refusal),
-}

@@ -7,9 +7,9 @@ ghost use Rattle.manager.specs.clauses.Place.{place_of, manager_on};
 ghost use Rattle.manager.specs.clauses.Answers.{Loads};
 ghost use Rattle.manager.specs.clauses.Load.{BlockSeen, BlocksSeen, Stands, Piece};
 
-use crate::{Manager, ManagerAnswer, place};
-use blocks::{Container, Presence, Refusal};
-use checkpoint::{Mapped, Mapping, superblock};
+use crate::{Manager, place};
+use blocks::{Container, Refusal};
+use checkpoint::{Mapping, superblock};
 use fletcher::Sums;
 
 // The least length of an object that verifies, and of a manager.
@@ -28,11 +28,10 @@ const SUMMED_FROM: u64 = 8;
 fn place_of(sb: &[u8], mapping: Mapping) -> Manager
     ensures { result ≡ place_of (bytes sb) mapping }
 {
-    let at = mapping.address;
     Manager {
         base: superblock::data_base(sb),
         blocks: superblock::data_blocks(sb),
-        at,
+        at: mapping.address,
         size: mapping.size,
     }
 }
@@ -42,48 +41,33 @@ fn blocks_for(container: Container, length: u64) -> u64
     requires { 0 < container.size }
     ensures { result ≡ blocks_for container length }
 {
-    let size = container.size;
-    if length % size == 0 {
-        length / size
-    } else {
-        length / size + 1
-    }
+    length.div_ceil(container.size)
 }
 
 // Whether block index may be read.
-fn block_there(container: Container, manager: Manager, index: u64) -> Presence
+fn block_there(container: Container, manager: Manager, index: u64) -> Result<(), Refusal>
     ensures { BlockSeen container manager index result }
 {
     let at = manager.at.0;
     if at < manager.base {
-        return Presence::Refused(Refusal::Overflow);
+        return Err(Refusal::Overflow);
     }
-    if u64::MAX - (at - manager.base) < index {
-        return Presence::Refused(Refusal::Overflow);
+    blocks::add(at - manager.base, index)?;
+    let address = blocks::add(manager.base, place::ring_index(manager, index))?;
+    if container.count <= address {
+        return Err(Refusal::PastContainer);
     }
-    let k = place::ring_index(manager, index);
-    if u64::MAX - manager.base < k {
-        return Presence::Refused(Refusal::Overflow);
-    }
-    if container.count <= manager.base + k {
-        return Presence::Refused(Refusal::PastContainer);
-    }
-    Presence::There
+    Ok(())
 }
 
 // Whether the first blocks may be read: no byte is looked at before all may.
-fn blocks_there(container: Container, manager: Manager, blocks: u64) -> Presence
+fn blocks_there(container: Container, manager: Manager, blocks: u64) -> Result<(), Refusal>
     ensures { BlocksSeen container manager blocks result }
 {
-    let mut i = 0;
-    while i < blocks {
-        let seen = block_there(container, manager, i);
-        match seen {
-            Presence::Refused(r) => return Presence::Refused(r),
-            Presence::There => i += 1,
-        }
+    for i in 0..blocks {
+        block_there(container, manager, i)?;
     }
-    Presence::There
+    Ok(())
 }
 
 // The manager's bytes from pos on, to its end or the block's.
@@ -96,11 +80,8 @@ fn piece_at(image: &[u8], container: Container, manager: Manager, pos: u64) -> &
     let room = size - start;
     let left = manager.size - pos;
     let block = place::ring_block(image, container, manager, pos / size);
-    if room < left {
-        fields::part_of(block, start as usize, room as usize)
-    } else {
-        fields::part_of(block, start as usize, left as usize)
-    }
+    let len = room.min(left);
+    fields::part_of(block, start as usize, len as usize)
 }
 
 // The sums over the manager's bytes after its checksum, piece by piece.
@@ -134,39 +115,44 @@ fn verify(image: &[u8], container: Container, manager: Manager) -> bool
 }
 
 // The tests of a manager whose blocks are there.
-fn accept(image: &[u8], container: Container, manager: Manager) -> ManagerAnswer
+fn accept(image: &[u8], container: Container, manager: Manager) -> Result<Manager, Refusal>
     requires { Stands image.now container manager }
     ensures { Loads image container result (accepted (manager_on image container manager)) }
 {
     if !verify(image, container, manager) {
-        return ManagerAnswer::Refused(Refusal::BadChecksum);
+        return Err(Refusal::BadChecksum);
     }
     if manager.size < LEAST_MANAGER {
-        return ManagerAnswer::Refused(Refusal::OutsideBytes);
+        return Err(Refusal::OutsideBytes);
     }
-    ManagerAnswer::Given(manager)
+    Ok(manager)
 }
 
 // The manager that a mapping names.
-fn load_at(image: &[u8], container: Container, sb: &[u8], mapping: Mapping) -> ManagerAnswer
+fn load_at(
+    image: &[u8],
+    container: Container,
+    sb: &[u8],
+    mapping: Mapping,
+) -> Result<Manager, Refusal>
     requires { Holds image.now container }
     ensures { Loads image container result (manager_at container (bytes sb) mapping) }
 {
     let manager = place_of(sb, mapping);
-    let seen = blocks_there(container, manager, blocks_for(container, manager.size));
-    match seen {
-        Presence::Refused(r) => ManagerAnswer::Refused(r),
-        Presence::There => accept(image, container, manager),
-    }
+    blocks_there(container, manager, blocks_for(container, manager.size))?;
+    accept(image, container, manager)
 }
 
 // The manager's place, or the first refusal: an id that isn't mapped comes before all else.
-pub fn load(image: &[u8], container: Container, sb: &[u8], mapped: Mapped) -> ManagerAnswer
+pub fn load(
+    image: &[u8],
+    container: Container,
+    sb: &[u8],
+    mapped: Option<Mapping>,
+) -> Result<Manager, Refusal>
     requires { Holds image.now container }
     ensures { Loads image container result (manager_by container (bytes sb) mapped) }
 {
-    match mapped {
-        Mapped::To(mapping) => load_at(image, container, sb, mapping),
-        Mapped::Nowhere => ManagerAnswer::Refused(Refusal::Unmapped),
-    }
+    let mapping = mapped.ok_or(Refusal::Unmapped)?;
+    load_at(image, container, sb, mapping)
 }

@@ -16,8 +16,7 @@ const BYTE_VALUES: u64 = 256;
 fn ring_length(stored: u64) -> u64
     ensures { result ≡ ring_length stored }
 {
-    let n = superblock::without_top_bit(stored);
-    if n == 0 { 1 } else { n }
+    superblock::without_top_bit(stored).max(1)
 }
 
 // A remainder; most numbers are below the divisor already, and need no division.
@@ -48,25 +47,18 @@ pub(crate) fn ring_index(manager: Manager, index: u64) -> u64
     ensures { result ≡ ring_index manager index }
 {
     let ring = ring_length(manager.blocks);
-    let at = manager.at.0;
-    if at < manager.base {
-        return remainder(index, ring);
-    }
-    remainder(
-        remainder(at - manager.base, ring) + remainder(index, ring),
-        ring,
-    )
+    let offset = manager.at.0.saturating_sub(manager.base);
+    remainder(remainder(offset, ring) + remainder(index, ring), ring)
 }
 
 // Block index after a base; empty where its number passes 2^64, since no image has such a block.
 pub fn block_after(image: &[u8], container: Container, base: u64, index: u64) -> &[u8]
     ensures { result.now ≡ blocks_in image.entry container (base + index) }
 {
-    if u64::MAX - base < index {
-        return fields::part_of(image, image.len(), 0);
+    match base.checked_add(index) {
+        Some(n) => blocks::block(image, container.size, Address(n)),
+        None => &[],
     }
-    let n = base + index;
-    blocks::block(image, container.size, Address(n))
 }
 
 // The manager's block index.
@@ -82,10 +74,7 @@ fn byte_in(image: &[u8], container: Container, manager: Manager, off: u64, index
     ensures { (result ≡ get_or (manager_on image container manager) (off + index) 0) × (result < 256) }
 {
     let size = container.size;
-    if manager.size <= off {
-        return 0;
-    }
-    if manager.size - off <= index {
+    if manager.size.saturating_sub(off) <= index {
         return 0;
     }
     if size == 0 {
@@ -93,11 +82,7 @@ fn byte_in(image: &[u8], container: Container, manager: Manager, off: u64, index
     }
     let j = off + index;
     let block = ring_block(image, container, manager, j / size);
-    let at = (j % size) as usize;
-    if block.len() <= at {
-        return 0;
-    }
-    fields::wide(block[at])
+    fields::wide(block.get((j % size) as usize).copied().unwrap_or(0))
 }
 
 // The number in the width bytes from off on, read byte by byte, wherever each stands.
@@ -106,9 +91,7 @@ fn number_across(image: &[u8], container: Container, manager: Manager, off: u64,
     ensures { NumberAt width (manager_on image container manager) off result }
 {
     let mut v: u64 = 0;
-    let mut k = width;
-    while 0 < k {
-        k -= 1;
+    for k in (0..width).rev() {
         v = v * BYTE_VALUES + byte_in(image, container, manager, off, k);
     }
     v
@@ -131,10 +114,8 @@ pub(crate) fn number(
     }
     let block = ring_block(image, container, manager, quotient(off, size));
     let at = remainder(off, size);
-    if fields::fits(manager.size, off, width) {
-        if fields::fits(block.len() as u64, at, width) {
-            return fields::number(block, at as usize, width as usize);
-        }
+    if fields::fits(manager.size, off, width) && fields::fits(block.len() as u64, at, width) {
+        return fields::number(block, at as usize, width as usize);
     }
     number_across(image, container, manager, off, width)
 }

@@ -21,16 +21,17 @@ use Rattle.nodes.specs.Node.{ghost_offset}
 use Rattle.node_build.specs.declared.Sizes.{Sizes}
 use Rattle.node_build.specs.declared.Sizes.TheVariants.{Fixed, Variable}
 use Rattle.node_build.specs.declared.NodeHeader.{NodeHeader}
-use Rattle.node_build.specs.declared.Measure.{Measure}
-use Rattle.node_build.specs.declared.Measure.TheVariants.{There, Outside}
 use Rattle.node_build.specs.declared.Measured.{Measured}
+use Rattle.std.specs.Prelude.{Option, Some, None, Ok, Err}
+use Rattle.std.specs.Option.{ok_or}
 use Rattle.node_build.specs.declared.Plan.{Plan}
 use Rattle.node_build.specs.Build.{Request, keys, values, table, key_bytes, all_values, room, reserved, table_length, free_length, fits, unsealed, node, in_eights, is_packed, padded_length, padded, slot_width, slot_bytes, leaf_level, space, slots, fixed_flag, flags, object_header, shape, no_lists, areas, description, sealed}
 use Rattle.node_build.specs.Asked.{Handed, ghost_length, taken, entries_in, takes, well_formed, request_of, made, build_from, build_node}
 use Rattle.node_build.specs.clauses.Lengths.{offset_for, Measures, Weighs, WeighsAll}
 use Rattle.node_build.specs.clauses.Layouts.{LaidOut, PlanOf, holds}
 use Rattle.node_build.specs.clauses.Regions.{PairsRoom, PairsFill, keys_of, values_of, free_of, headers_of, Laid, space_of, Ready, Weighed}
-use Rattle.node_build.specs.declared.Built.TheVariants.{Done, OutsideBytes, NoRoom}
+use Rattle.node_build.specs.declared.BuildError.{BuildError}
+use Rattle.node_build.specs.declared.BuildError.TheVariants.{OutsideBytes, NoRoom}
 use Rattle.checkpoint.specs.Geometry.{size_allowed}
 use Rattle.node_build.proofs.Laws.{entries_count}
 
@@ -232,15 +233,18 @@ module _ (info parts ls : List ℕ) where
     unfolding well_formed
     formed_bytes e r q = and_both _ _ (le-leb 40 (length info) h) r (and_both _ _ (eq-eqb (length ls % 2) 0 e) r q)
 
-  pub weighs_all : (packed : Bool) (r : Measure) → 40 ≤ length info → length ls % 2 ≡ 0 → Weighs packed ls (length parts) r → WeighsAll packed info parts ls r
-  weighs_all packed (There m) h e w = (sym (formed_bytes h e true (sym (le-leb (takes ls) (length parts) w.0))), w.1)
-  weighs_all packed Outside h e w = sym (formed_bytes h e false (sym (lt-leb (takes ls) (length parts) w)))
+  pub weighs_all : (packed : Bool) (r : Option Measured) → 40 ≤ length info → length ls % 2 ≡ 0 → Weighs packed ls (length parts) r → WeighsAll packed info parts ls r
+  weighs_all packed (Some m) h e w = (sym (formed_bytes h e true (sym (le-leb (takes ls) (length parts) w.0))), w.1)
+  weighs_all packed None h e w = sym (formed_bytes h e false (sym (lt-leb (takes ls) (length parts) w)))
 
-  pub weighs_there : (packed : Bool) (r : Measure) (m : Measured) → r ≡ There m → WeighsAll packed info parts ls r → (well_formed info parts ls ≡ true) × Measures packed ls m
-  weighs_there packed r m e w = rw e at w
+  -- what `?` makes of it
+  pub weighs_there : (packed : Bool) (r : Option Measured) (m : Measured) (e : BuildError) → ok_or r e ≡ Ok m → WeighsAll packed info parts ls r → (well_formed info parts ls ≡ true) × Measures packed ls m
+  weighs_there packed (Some n) m e p w = let same : n ≡ m = cc in rw same at w
+  weighs_there packed None m e p w = let z : ◌≡◌ {A = ℕ} 0 1 = cc in absurd (omega arith)
 
-  pub weighs_outside : (packed : Bool) (r : Measure) → r ≡ Outside → WeighsAll packed info parts ls r → well_formed info parts ls ≡ false
-  weighs_outside packed r e w = rw e at w
+  pub weighs_outside : (packed : Bool) (r : Option Measured) (x e : BuildError) → ok_or r e ≡ Err x → WeighsAll packed info parts ls r → (well_formed info parts ls ≡ false) × (x ≡ e)
+  weighs_outside packed (Some n) x e p w = let z : ◌≡◌ {A = ℕ} 0 1 = cc in absurd (omega arith)
+  weighs_outside packed None x e p w = let same : x ≡ e = cc in (w, same)
 
   -- and what it leaves
   module _ (f : well_formed info parts ls ≡ true) where
@@ -405,21 +409,21 @@ space_put t k z v a b = rw (flat t k z v) at (wrote_then a b)
 
 -- a request's answer, by the way that each test goes
 module _ (found : List ℕ) (q : Request) where
-  pub from_size : size_allowed (length found) ≡ false → made NoRoom found ≡ build_from found q
+  pub from_size : size_allowed (length found) ≡ false → made (Err NoRoom) found ≡ build_from found q
   unfolding build_from
   from_size e = simp e
 
   module _ (e : size_allowed (length found) ≡ true) where
-    pub from_room : fits q (length found) ≡ false → made NoRoom found ≡ build_from found q
+    pub from_room : fits q (length found) ≡ false → made (Err NoRoom) found ≡ build_from found q
     unfolding build_from
     from_room f = simp (e, f)
 
-    pub from_fits : fits q (length found) ≡ true → (filled after : List ℕ) (r : ℕ) → Wrote (unsealed q (length found)) 8 found filled r → r ≡ length found → after ≡ sealed (drop 8 filled) → made Done after ≡ build_from found q
+    pub from_fits : fits q (length found) ≡ true → (filled after : List ℕ) (r : ℕ) → Wrote (unsealed q (length found)) 8 found filled r → r ≡ length found → after ≡ sealed (drop 8 filled) → made (Ok tt) after ≡ build_from found q
     unfolding build_from node
-    from_fits f filled after r w end s = ap (made Done) (s ∙ ap sealed (ap (drop 8) w.is ∙ written_end found (unsealed q (length found)) 8 (omega (arith, w.next)))) ∙ sym (simp (e, f))
+    from_fits f filled after r w end s = ap (made (Ok tt)) (s ∙ ap sealed (ap (drop 8) w.is ∙ written_end found (unsealed q (length found)) 8 (omega (arith, w.next)))) ∙ sym (simp (e, f))
 
 module _ (found : List ℕ) (h : Handed) where
-  pub build_unformed : well_formed h.info h.parts h.lengths ≡ false → made OutsideBytes found ≡ build_node found h
+  pub build_unformed : well_formed h.info h.parts h.lengths ≡ false → made (Err OutsideBytes) found ≡ build_node found h
   unfolding build_node
   build_unformed e = simp e
 

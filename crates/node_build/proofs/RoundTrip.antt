@@ -2,7 +2,7 @@
 use mathlib.Core.Bool.{Bool, true, false, ◌&&◌}
 use mathlib.Core.Path.{◌≡◌, refl, sym, ap, ◌∙◌}
 use mathlib.Core.List.{List, [], ◌∷◌, ◌++◌, append_assoc}
-use mathlib.Core.Option.{Option, some, none}
+use Rattle.std.specs.Prelude.{Option, Some, None, Result, Ok, Err}
 use Prim.Native.Nat.{ℕ, ◌+◌, ◌-◌, ◌*◌, ◌^◌, ◌≤◌, ◌<◌}
 use native.Mathlib.Omega.{arith}
 use lib.Dec.{leb}
@@ -22,12 +22,13 @@ use Rattle.checkpoint.specs.Geometry.{size_allowed}
 use Rattle.nodes.specs.Node.{Entry, entry, slot, value_of, is_leaf, is_fixed, keys_at, level_of, table_at, value_end, parse, read_node}
 use Rattle.nodes.specs.clauses.Answers.{is_plain, is_sound}
 use Rattle.nodes.specs.declared.Description.{Description}
-use Rattle.nodes.proofs.Laws.{slot_fixed, slot_variable, fixed_given, variable_given, part_given, value_ghost, value_given, entry_given, parse_given, describe_root}
+use Rattle.nodes.proofs.Laws.{slot_fixed, slot_variable, fixed_given, variable_given, part_given, value_ghost, value_cut, parse_given, describe_root}
 use Rattle.node_build.specs.declared.Sizes.{Sizes}
 use Rattle.node_build.specs.declared.Sizes.TheVariants.{Fixed, Variable}
 use Rattle.node_build.specs.Build.{Request, is_packed, value_bytes, keys, values, offset_of, length_of, slot_width, slot_bytes, slots_from, leaf_level, key_bytes, all_values, table_length, free_length, fits, table, node}
 use Rattle.node_build.specs.Asked.{Handed, request_of, well_formed, Made, made, build_from, build_node}
-use Rattle.node_build.specs.declared.Built.TheVariants.{Done, OutsideBytes, NoRoom}
+use Rattle.node_build.specs.declared.BuildError.{BuildError}
+use Rattle.node_build.specs.declared.BuildError.TheVariants.{OutsideBytes, NoRoom}
 use Rattle.node_build.specs.Readback.{entries_from, Sized, AllSized, Readable, States, read_entries, ReadsBack, described_by, DescribesBack}
 use Rattle.node_build.proofs.Laws.{padded_length_lem, padded_least}
 use Rattle.node_build.proofs.RegionLaws.{formed_info}
@@ -42,7 +43,7 @@ all_at z leaf (x ∷ xs) ys e a = all_at z leaf xs ys e a.1
 record SlotRead (f : ℕ → List ℕ) (d : Description) (b : List ℕ) (i koff klen voff : ℕ) (value : Option (List ℕ)) : Type 0 where
   vlen : ℕ
   read : run f (slot d b i) ≡ given (record { koff = koff; klen = klen; voff = voff; vlen = vlen })
-  is : (x : List ℕ) → value ≡ some x → vlen ≡ length x
+  is : (x : List ℕ) → value ≡ Some x → vlen ≡ length x
 
 -- the numbers of a slot that stands at a place
 module _ (b : List ℕ) (at koff klen voff vlen : ℕ) (k : koff < 256 ^ 2) (v : voff < 256 ^ 2) where
@@ -122,7 +123,7 @@ module _ {q : Request} {size : ℕ} (built : BuiltNode q size) (rd : Readable q)
     unfolding all_values values
     values_sum = ap (λ (l : List Entry). length (values packed l)) split ∙ values_length packed xs (e ∷ ys) ∙ omega (arith, length-append (values packed ys) (value_bytes packed e.value))
 
-    value_in : (x : List ℕ) → e.value ≡ some x → Stands x (value_end b - back) b
+    value_in : (x : List ℕ) → e.value ≡ Some x → Stands x (value_end b - back) b
     unfolding all_values
     value_in x v = in_node built x (48 + table_length q size + length (key_bytes q) + free_length q size + length (values packed ys)) _
         (stands_in _ _ _ _ _ here (values_at_lem built))
@@ -136,8 +137,8 @@ module _ {q : Request} {size : ℕ} (built : BuiltNode q size) (rd : Readable q)
     offset_small = go e.value
       where
         go : (v : Option (List ℕ)) → offset_of v back < 256 ^ 2
-        go none = omega arith
-        go (some x) = omega (arith, values_sum, fitting built, most built)
+        go None = omega arith
+        go (Some x) = omega (arith, values_sum, fitting built, most built)
 
     slots_here : Stands (slot_bytes q.sizes (length (keys packed xs)) (length e.key) (offset_of e.value back) (length_of e.value)) (length xs * slot_width q.sizes) (slots_from q.sizes packed 0 0 q.entries)
     slots_here = rw split (slot_stands q.sizes packed xs ys e 0 0 (length (keys packed xs)) back (length xs * slot_width q.sizes) (omega arith) (omega arith) refl)
@@ -156,8 +157,8 @@ module _ {q : Request} {size : ℕ} (built : BuiltNode q size) (rd : Readable q)
     value_small = go e.value
       where
         go : (v : Option (List ℕ)) → length_of v ≤ length (value_bytes packed v)
-        go none = omega arith
-        go (some x) = omega (arith, padded_length_lem packed x, padded_least packed (length x))
+        go None = omega arith
+        go (Some x) = omega (arith, padded_length_lem packed x, padded_least packed (length x))
 
     -- the two kinds of slots part here, and nowhere else
     slot_read : SlotRead f d b i (length (keys packed xs)) (length e.key) (offset_of e.value back) e.value
@@ -202,22 +203,22 @@ module _ {q : Request} {size : ℕ} (built : BuiltNode q size) (rd : Readable q)
             vlen_small : length_of e.value < 256 ^ 2
             vlen_small = omega (arith, value_small, values_sum, fitting built, most built)
 
-    value_read : (vlen : ℕ) → ((x : List ℕ) → e.value ≡ some x → vlen ≡ length x)
+    value_read : (vlen : ℕ) → ((x : List ℕ) → e.value ≡ Some x → vlen ≡ length x)
         → run f (value_of b (record { koff = length (keys packed xs); klen = length e.key; voff = offset_of e.value back; vlen = vlen })) ≡ given e.value
-    unfolding offset_of
+    unfolding offset_of run
     value_read vlen same = go e.value refl
       where
         go : (v : Option (List ℕ)) → e.value ≡ v → run f (value_of b (record { koff = length (keys packed xs); klen = length e.key; voff = offset_of v back; vlen = vlen })) ≡ given v
-        go none p = value_ghost f b _ refl
-        go (some x) p =
-            value_given f b _ (λ g. omega (arith, values_sum, fitting built, most built))
-            (omega (arith, values_sum, fitting built, value_end_is built)) (value_end b - back) refl x
+        go None p = value_ghost f b _ refl
+        go (Some x) p =
+            value_cut f b _ (λ g. omega (arith, values_sum, fitting built, most built))
+            (omega (arith, values_sum, fitting built, value_end_is built)) (value_end b - back) refl
+            ∙ then_given f _ _ x
             (part_given f vlen b (value_end b - back) (omega (arith, same x p, stands_inside x b _ (value_in x p))) ∙ ap given (ap (λ (n : ℕ). take n (drop (value_end b - back) b)) (same x p) ∙ stands_part x b _ (value_in x p)))
 
     pub entry_read : run f (entry d b i) ≡ given e
-    entry_read =
-        let s = slot_read in
-        entry_given f d b i (record { koff = length (keys packed xs); klen = length e.key; voff = offset_of e.value back; vlen = s.vlen }) s.read e.key key_read e.value (value_read s.vlen s.is)
+    unfolding run entry
+    entry_read = let s = slot_read in then_given f _ _ _ s.read ∙ (then_given f _ _ e.key key_read ∙ then_given f _ _ e.value (value_read s.vlen s.is))
 
   -- the entries that are left
   pub entries_read : (ys xs : List Entry) (i : ℕ) → q.entries ≡ xs ++ ys → i ≡ length xs → run f (entries_from d b (length ys) i) ≡ given ys
@@ -247,31 +248,31 @@ module _ {q : Request} {size : ℕ} (built : BuiltNode q size) (rd : Readable q)
 
 -- what an answer of a built node tells
 module _ (found : List ℕ) (h : Handed) (n : List ℕ) where
-  from_done : build_from found (request_of h) ≡ made Done n → ((size_allowed (length found) && fits (request_of h) (length found)) ≡ true) × (n ≡ node (request_of h) (length found))
+  from_done : build_from found (request_of h) ≡ made (Ok tt) n → ((size_allowed (length found) && fits (request_of h) (length found)) ≡ true) × (n ≡ node (request_of h) (length found))
   unfolding build_from
   from_done e = go (size_allowed (length found) && fits (request_of h) (length found)) refl e
     where
-      go : (t : Bool) → (size_allowed (length found) && fits (request_of h) (length found)) ≡ t → choose t (λ _. made Done (node (request_of h) (length found))) (λ _. made NoRoom found) ≡ made Done n
+      go : (t : Bool) → (size_allowed (length found) && fits (request_of h) (length found)) ≡ t → choose t (λ _. made (Ok tt) (node (request_of h) (length found))) (λ _. made (Err NoRoom) found) ≡ made (Ok tt) n
           → ((size_allowed (length found) && fits (request_of h) (length found)) ≡ true) × (n ≡ node (request_of h) (length found))
       go true p r = (p, sym (ap (λ (m : Made). m.node) r))
       go false p r = absurd (apart (ap (λ (m : Made). m.answer) r))
         where
-          apart : NoRoom ≡ Done → ⊥
+          apart : ◌≡◌ {A = Result (Unit {0}) BuildError} (Err NoRoom) (Ok tt) → ⊥
           apart u = let z : ◌≡◌ {A = ℕ} 0 1 = cc in absurd (omega arith)
 
-  node_done : build_node found h ≡ made Done n → (well_formed h.info h.parts h.lengths ≡ true) × (build_from found (request_of h) ≡ made Done n)
+  node_done : build_node found h ≡ made (Ok tt) n → (well_formed h.info h.parts h.lengths ≡ true) × (build_from found (request_of h) ≡ made (Ok tt) n)
   unfolding build_node
   node_done e = go (well_formed h.info h.parts h.lengths) refl e
     where
-      go : (t : Bool) → well_formed h.info h.parts h.lengths ≡ t → choose t (λ _. build_from found (request_of h)) (λ _. made OutsideBytes found) ≡ made Done n
-          → (well_formed h.info h.parts h.lengths ≡ true) × (build_from found (request_of h) ≡ made Done n)
+      go : (t : Bool) → well_formed h.info h.parts h.lengths ≡ t → choose t (λ _. build_from found (request_of h)) (λ _. made (Err OutsideBytes) found) ≡ made (Ok tt) n
+          → (well_formed h.info h.parts h.lengths ≡ true) × (build_from found (request_of h) ≡ made (Ok tt) n)
       go true p r = (p, r)
       go false p r = absurd (apart (ap (λ (m : Made). m.answer) r))
         where
-          apart : OutsideBytes ≡ Done → ⊥
+          apart : ◌≡◌ {A = Result (Unit {0}) BuildError} (Err OutsideBytes) (Ok tt) → ⊥
           apart u = let z : ◌≡◌ {A = ℕ} 0 1 = cc in absurd (omega arith)
 
-  node_built : build_node found h ≡ made Done n → BuiltNode (request_of h) (length found) × (n ≡ node (request_of h) (length found))
+  node_built : build_node found h ≡ made (Ok tt) n → BuiltNode (request_of h) (length found) × (n ≡ node (request_of h) (length found))
   node_built e =
       let formed = node_done e in
       let held = from_done formed.1 in (

@@ -2,7 +2,7 @@
 use mathlib.Core.Bool.{Bool}
 use mathlib.Core.Path.{◌≡◌, refl, sym, ap, ◌∙◌}
 use mathlib.Core.List.{List, [], ◌∷◌, ◌++◌, append_assoc, append-nil}
-use mathlib.Core.Option.{some}
+use Rattle.std.specs.Prelude.{Some}
 use Prim.Native.Nat.{ℕ, ◌+◌, ◌*◌, ◌^◌, ◌≤◌, ◌<◌}
 use native.Mathlib.Nat.{suc-mul, zero-mul}
 use native.Mathlib.Omega.{arith}
@@ -73,9 +73,9 @@ module _ (packed : Bool) where
   values_length [] ys = omega arith
   values_length (x ∷ xs) ys = simp length-append (omega (arith, values_length xs ys))
 
-  pub value_stands : (xs ys : List Entry) (e : Entry) (v : List ℕ) → e.value ≡ some v → Stands v (length (values packed ys)) (values packed (xs ++ (e ∷ ys)))
+  pub value_stands : (xs ys : List Entry) (e : Entry) (v : List ℕ) → e.value ≡ Some v → Stands v (length (values packed ys)) (values packed (xs ++ (e ∷ ys)))
   unfolding values value_bytes padded
-  value_stands [] ys e v q = rw q (stands_right (values packed ys) v (value_bytes packed (some v)) 0 (length (values packed ys)) (stands_first v _) (omega arith))
+  value_stands [] ys e v q = rw q (stands_right (values packed ys) v (value_bytes packed (Some v)) 0 (length (values packed ys)) (stands_first v _) (omega arith))
   value_stands (x ∷ xs) ys e v q = stands_left _ _ _ _ (value_stands xs ys e v q)
 
 -- a slot's width is that of its numbers

@@ -1,13 +1,13 @@
 -- A request as it is handed over, the entries' bytes in one slice and their lengths in another; and what is answered to it.
 use Rattle.std.specs.Prelude.{Bool, ◌&&◌, List, [], ◌∷◌, ℕ, ◌+◌, ◌-◌, ◌%◌, ◌^◌, leb, eqb, length, take, drop}
-use Rattle.std.proofs.Math.Option.{Option, some, none}
+use Rattle.std.specs.Prelude.{Option, Some, None, Result, Ok, Err}
 use Rattle.fields.specs.Choice.{pick, choose}
 use Rattle.blocks.specs.Refusals.{number_of}
 use Rattle.blocks.specs.declared.Refusal as refusal
 use Rattle.checkpoint.specs.Geometry.{size_allowed}
 use Rattle.nodes.specs.Node.{Entry, description_length}
-use Rattle.node_build.specs.declared.Built.{Built}
-use Rattle.node_build.specs.declared.Built.TheVariants.{Done, OutsideBytes, NoRoom}
+use Rattle.node_build.specs.declared.BuildError.{BuildError}
+use Rattle.node_build.specs.declared.BuildError.TheVariants.{OutsideBytes, NoRoom}
 use Rattle.node_build.specs.declared.NodeHeader.{NodeHeader}
 use Rattle.node_build.specs.declared.Sizes.{Sizes}
 use Rattle.node_build.specs.Build.{Request, fits, node}
@@ -29,7 +29,7 @@ unfoldable pub taken : ℕ → ℕ
 taken v = pick (eqb v ghost_length) 0 v
 
 unfoldable pub value_in : ℕ → List ℕ → Option (List ℕ)
-value_in v b = pick (eqb v ghost_length) none (some (take v b))
+value_in v b = pick (eqb v ghost_length) None (Some (take v b))
 
 -- key, value, key, value, ..
 unfoldable pub entries_in : List ℕ → List ℕ → List Entry
@@ -52,26 +52,26 @@ request_of h = record { header = h.header; sizes = h.sizes; info = h.info; entri
 
 -- an answer, and the lent node after it
 pub record Made : Type 0 where
-  pub answer : Built
+  pub answer : Result (Unit {0}) BuildError
   pub node : List ℕ
 
-abbrev pub made : Built → List ℕ → Made
+abbrev pub made : Result (Unit {0}) BuildError → List ℕ → Made
 made a n = record { answer = a; node = n }
 
 -- document 02: "26, the node's size isn't one that refusal 3 admits or the entries don't fit as `layout` works it out, and the lent
 -- node is unchanged"; its length is the size
 unfoldable pub build_from : List ℕ → Request → Made
 build_from found q =
-    choose (size_allowed (length found) && fits q (length found)) (λ _. made Done (node q (length found)))
-    (λ _. made NoRoom found)
+    choose (size_allowed (length found) && fits q (length found)) (λ _. made (Ok tt) (node q (length found)))
+    (λ _. made (Err NoRoom) found)
 
 -- "17. A field, entry .. is absent or outside its bytes", of what is handed over
 unfoldable pub build_node : List ℕ → Handed → Made
 build_node found h =
-    choose (well_formed h.info h.parts h.lengths) (λ _. build_from found (request_of h)) (λ _. made OutsideBytes found)
+    choose (well_formed h.info h.parts h.lengths) (λ _. build_from found (request_of h)) (λ _. made (Err OutsideBytes) found)
 
 -- the number of an answer: 0 where the node is built
-abbrev pub built_number : Built → ℕ
-built_number Done = 0
-built_number OutsideBytes = number_of refusal.TheVariants.OutsideBytes
-built_number NoRoom = 26
+abbrev pub built_number : Result (Unit {0}) BuildError → ℕ
+built_number (Ok tt) = 0
+built_number (Err OutsideBytes) = number_of refusal.TheVariants.OutsideBytes
+built_number (Err NoRoom) = 26

@@ -1,7 +1,7 @@
 -- A node built to order: its bytes in the order in which they stand. Document 02: "Port `build` from btree_write.rs, with its
 -- table slots, padding, ghost mark and seal." Names in backquotes are the Rust's.
 use Rattle.std.specs.Prelude.{Bool, ◌&&◌, List, [], ◌∷◌, ◌++◌, ℕ, ◌+◌, ◌-◌, ◌*◌, ◌/◌, max, leb, eqb, length, take, replicate}
-use Rattle.std.proofs.Math.Option.{Option, some, none}
+use Rattle.std.specs.Prelude.{Option, Some, None}
 use Rattle.fields.specs.Choice.{pick}
 use Rattle.fields.specs.Fields.{num, bit}
 use Rattle.writers.specs.Bytes.{le_bytes}
@@ -35,8 +35,8 @@ padded packed x = x ++ replicate (padded_length packed (length x) - length x) 0
 
 -- an entry without value takes no bytes
 unfoldable pub value_bytes : Bool → Option (List ℕ) → List ℕ
-value_bytes packed none = []
-value_bytes packed (some v) = padded packed v
+value_bytes packed None = []
+value_bytes packed (Some v) = padded packed v
 
 -- keys in order
 unfoldable pub keys : Bool → List Entry → List ℕ
@@ -50,12 +50,12 @@ values packed (e ∷ es) = values packed es ++ value_bytes packed e.value
 
 -- how far before the value end a value begins
 unfoldable pub offset_of : Option (List ℕ) → ℕ → ℕ
-offset_of none v = ghost_offset
-offset_of (some x) v = v
+offset_of None v = ghost_offset
+offset_of (Some x) v = v
 
 unfoldable pub length_of : Option (List ℕ) → ℕ
-length_of none = 0
-length_of (some x) = length x
+length_of None = 0
+length_of (Some x) = length x
 
 unfoldable pub slot_width : Sizes → ℕ
 slot_width (Fixed k v) = 4

@@ -1,6 +1,6 @@
 -- What is promised of a built node: reading it by document 01's rules gives back its entries.
 use Rattle.std.specs.Prelude.{Bool, true, ◌||◌, List, [], ◌∷◌, ◌≡◌, ℕ, zero, suc, ◌+◌, ◌%◌, ◌^◌, ◌≤◌, ◌<◌, eqb, length}
-use Rattle.std.proofs.Math.Option.{some}
+use Rattle.std.specs.Prelude.{Some, Ok}
 use Rattle.fields.specs.Choice.{pick}
 use Rattle.fields.specs.Fields.{num}
 use Rattle.fields.specs.Header.{root_node_kind, node_kind}
@@ -11,7 +11,6 @@ use Rattle.nodes.specs.Node.{Entry, entry, deepest_level, key_count, read_node, 
 use Rattle.nodes.specs.declared.Description.{Description}
 use Rattle.node_build.specs.declared.Sizes.{Sizes}
 use Rattle.node_build.specs.declared.Sizes.TheVariants.{Fixed, Variable}
-use Rattle.node_build.specs.declared.Built.TheVariants.{Done}
 use Rattle.node_build.specs.Build.{Request, leaf_level}
 use Rattle.node_build.specs.Asked.{Handed, request_of, made, build_node}
 
@@ -25,7 +24,7 @@ entries_from d b (suc left) i = do
 
 -- "in fixed-size nodes, entries of exactly the stated sizes (8 for an index value)"; of a ghost only the key is asked
 abbrev pub Sized : Sizes → Bool → Entry → Type 0
-Sized (Fixed k v) leaf e = (length e.key ≡ k) × ((x : List ℕ) → e.value ≡ some x → length x ≡ pick leaf v 8)
+Sized (Fixed k v) leaf e = (length e.key ≡ k) × ((x : List ℕ) → e.value ≡ Some x → length x ≡ pick leaf v 8)
 Sized Variable leaf e = Unit {0}
 
 abbrev pub AllSized : Sizes → Bool → List Entry → Type 0
@@ -52,7 +51,7 @@ read_entries c d a = do
 -- "Reading a built node must give back every entry in its order": on any image that holds it, wherever that is
 abbrev pub ReadsBack : List ℕ → Handed → Type 0
 ReadsBack found h =
-    (n : List ℕ) → build_node found h ≡ made Done n → Readable (request_of h)
+    (n : List ℕ) → build_node found h ≡ made (Ok tt) n → Readable (request_of h)
     → (d : Description) → States d h.sizes
     → (c : Container) (a : Address) → 0 < a.0 → a.0 < c.count
     → (f : ℕ → List ℕ) → f a.0 ≡ n
@@ -64,5 +63,5 @@ described_by info = record { flags = num 4 info 0; key = num 4 info 8; value = n
 
 abbrev pub DescribesBack : List ℕ → Handed → Type 0
 DescribesBack found h =
-    (n : List ℕ) → build_node found h ≡ made Done n → h.header.root ≡ true
+    (n : List ℕ) → build_node found h ≡ made (Ok tt) n → h.header.root ≡ true
     → (f : ℕ → List ℕ) → run f (describe n) ≡ given (described_by h.info)

@@ -3,10 +3,10 @@ ghost use Rattle.std.specs.Prelude.{◌≡◌, ◌≤◌, length, drop};
 ghost use Rattle.blocks.specs.clauses.Images.{bytes, bytes_lent};
 ghost use Rattle.node_build.specs.Build.{sealed};
 ghost use Rattle.node_build.specs.Asked.{request_of, made, build_from, build_node};
-ghost use Rattle.node_build.specs.clauses.Regions.{handed, Ready, Weighed, FillsAll};
+ghost use Rattle.node_build.specs.clauses.Regions.{handed, handed_by, Ready, Weighed, FillsAll};
 
 use crate::{
-    Built, CHECKSUM, Measure, Measured, NodeHeader, Plan, Sizes, layout, regions, request,
+    Asked, BuildError, CHECKSUM, Measured, NodeHeader, Plan, Sizes, layout, regions, request,
 };
 use checkpoint::block_zero;
 
@@ -20,49 +20,43 @@ fn seal(node: &mut [u8])
 }
 
 // Everything after the checksum, region by region: no byte of the lent node is left.
-fn fill(
-    node: &mut [u8],
-    header: NodeHeader,
-    sizes: Sizes,
-    info: &[u8],
-    parts: &[u8],
-    lengths: &[u64],
-    plan: Plan,
-) -> usize
-    requires { Ready (length node.old) (handed header sizes info.now parts.now lengths.now) plan }
-    ensures { FillsAll node (handed header sizes (bytes info) (bytes parts) (bytes lengths)) result }
+fn fill(node: &mut [u8], asked: Asked, plan: Plan) -> usize
+    requires { Ready (length node.old) (handed_by asked) plan }
+    ensures { FillsAll node (handed_by asked.entry) result }
 {
-    let table = regions::put_headers(node, header, sizes, (lengths.len() / 2) as u64, plan);
-    let end = regions::put_entries(node, table, sizes, parts, lengths, plan);
-    regions::put_description(node, end, header.root, info)
+    let table = regions::put_headers(
+        node,
+        asked.header,
+        asked.sizes,
+        (asked.lengths.len() / 2) as u64,
+        plan,
+    );
+    let end = regions::put_entries(node, table, asked.sizes, asked.parts, asked.lengths, plan);
+    regions::put_description(node, end, asked.header.root, asked.info)
 }
 
 // A request whose slices are a list of entries.
 fn build_formed(
     node: &mut [u8],
-    header: NodeHeader,
-    sizes: Sizes,
-    info: &[u8],
-    parts: &[u8],
-    lengths: &[u64],
+    asked: Asked,
     packed: bool,
     measured: Measured,
-) -> Built
-    requires { Weighed packed (handed header sizes info.now parts.now lengths.now) measured }
-    ensures { made result node.new ≡ build_from (bytes_lent node) (request_of (handed header sizes (bytes info) (bytes parts) (bytes lengths))) }
+) -> Result<(), BuildError>
+    requires { Weighed packed (handed_by asked) measured }
+    ensures { made result node.new ≡ build_from (bytes_lent node) (request_of (handed_by asked.entry)) }
 {
     let size = node.len() as u64;
     if !block_zero::size_allowed(size) {
-        return Built::NoRoom;
+        return Err(BuildError::NoRoom);
     }
-    let count = (lengths.len() / 2) as u64;
-    let plan = layout::lay_out(size, header, sizes, packed, count, measured);
+    let count = (asked.lengths.len() / 2) as u64;
+    let plan = layout::lay_out(size, asked.header, asked.sizes, packed, count, measured);
     if !layout::fits(count, plan) {
-        return Built::NoRoom;
+        return Err(BuildError::NoRoom);
     }
-    fill(node, header, sizes, info, parts, lengths, plan);
+    fill(node, asked, plan);
     seal(node);
-    Built::Done
+    Ok(())
 }
 
 // A node of the lent slice's size, or a refusal and the slice as it was.
@@ -73,15 +67,17 @@ pub fn build(
     info: &[u8],
     parts: &[u8],
     lengths: &[u64],
-) -> Built
+) -> Result<(), BuildError>
     ensures { made result node.new ≡ build_node (bytes_lent node) (handed header sizes (bytes info) (bytes parts) (bytes lengths)) }
 {
+    let asked = Asked {
+        header,
+        sizes,
+        info,
+        parts,
+        lengths,
+    };
     let packed = layout::is_packed(info);
-    let measure = request::measure_all(packed, info, parts, lengths);
-    match measure {
-        Measure::Outside => Built::OutsideBytes,
-        Measure::There(measured) => build_formed(
-            node, header, sizes, info, parts, lengths, packed, measured,
-        ),
-    }
+    let measured = request::measure_all(packed, asked).ok_or(BuildError::OutsideBytes)?;
+    build_formed(node, asked, packed, measured)
 }

@@ -35,18 +35,21 @@ pub struct NodeHeader {
     pub root: bool,
 }
 
+// What a caller asks for: the tree's description, the entries' bytes, and a key's and a value's length in turn.
+#[derive(Clone, Copy)]
+pub(crate) struct Asked<'a> {
+    pub header: NodeHeader,
+    pub sizes: Sizes,
+    pub info: &'a [u8],
+    pub parts: &'a [u8],
+    pub lengths: &'a [u64],
+}
+
 // The bytes of all keys and of all values, with their padding.
 #[derive(Clone, Copy)]
 pub(crate) struct Measured {
     pub keys: u64,
     pub values: u64,
-}
-
-// What lengths come to, where there are as many bytes.
-#[derive(Clone, Copy)]
-pub(crate) enum Measure {
-    There(Measured),
-    Outside,
 }
 
 // How a node is laid out: padded or not, the space for table, keys and values, the slots reserved, and the bytes of the three.
@@ -60,10 +63,9 @@ pub(crate) struct Plan {
     pub values: u64,
 }
 
-// How a request ends.
+// Why a node isn't built.
 #[derive(Clone, Copy)]
-pub enum Built {
-    Done,
+pub enum BuildError {
     OutsideBytes,
     NoRoom,
 }
@@ -71,13 +73,13 @@ pub enum Built {
 // The number of a refusal that only a builder gives.
 const NO_ROOM: u32 = 26;
 
-// Its number: 0 where the node is built.
-pub fn built_number(built: Built) -> u32
+// An answer's number: 0 where the node is built.
+pub fn built_number(built: Result<(), BuildError>) -> u32
     ensures { result ≡ built_number built }
 {
     match built {
-        Built::Done => 0,
-        Built::OutsideBytes => number_of(Refusal::OutsideBytes) as u32,
-        Built::NoRoom => NO_ROOM,
+        Ok(()) => 0,
+        Err(BuildError::OutsideBytes) => number_of(Refusal::OutsideBytes) as u32,
+        Err(BuildError::NoRoom) => NO_ROOM,
     }
 }

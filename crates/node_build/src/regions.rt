@@ -10,6 +10,7 @@ ghost use Rattle.node_build.specs.clauses.Regions.{Fills, SlotsFill, slots_end, 
 ghost use Rattle.node_build.specs.clauses.Regions.{free_of, Holds, headers_of, Laid, space_of};
 
 use crate::{CHECKSUM, DESCRIPTION, NodeHeader, Plan, Sizes, layout, request};
+use nodes::Slot;
 
 const GHOST_OFFSET: u64 = 0xffff;
 
@@ -84,28 +85,20 @@ fn put_areas(node: &mut [u8], at: usize, table: u64, used: u64, free: u64) -> us
     writers::put(node, d, 8, NO_LISTS)
 }
 
-fn put_slot(
-    node: &mut [u8],
-    at: usize,
-    sizes: Sizes,
-    koff: u64,
-    klen: u64,
-    voff: u64,
-    vlen: u64,
-) -> usize
+fn put_slot(node: &mut [u8], at: usize, sizes: Sizes, slot: Slot) -> usize
     requires { at + slot_width sizes ≤ length node.old }
-    ensures { Fills node at (slot_bytes sizes koff klen voff vlen) result }
+    ensures { Fills node at (slot_bytes sizes slot.koff slot.klen slot.voff slot.vlen) result }
 {
     match sizes {
         Sizes::Fixed(_, _) => {
-            let value = writers::put(node, at, 2, koff);
-            writers::put(node, value, 2, voff)
+            let value = writers::put(node, at, 2, slot.koff);
+            writers::put(node, value, 2, slot.voff)
         }
         Sizes::Variable => {
-            let a = writers::put(node, at, 2, koff);
-            let b = writers::put(node, a, 2, klen);
-            let c = writers::put(node, b, 2, voff);
-            writers::put(node, c, 2, vlen)
+            let a = writers::put(node, at, 2, slot.koff);
+            let b = writers::put(node, a, 2, slot.klen);
+            let c = writers::put(node, b, 2, slot.voff);
+            writers::put(node, c, 2, slot.vlen)
         }
     }
 }
@@ -127,17 +120,21 @@ fn put_slots(node: &mut [u8], at: usize, sizes: Sizes, packed: bool, lengths: &[
 {
     let mut end = at;
     let mut koff = 0;
-    let mut voff = 0;
-    let mut i = 0;
-    while i < lengths.len() {
-        let k = lengths[i];
-        let v = lengths[i + 1];
-        let n = request::value_length(v);
-        let next = voff + layout::padded_length(packed, n);
-        end = put_slot(node, end, sizes, koff, k, offset_for(v, next), n);
-        koff = koff + layout::padded_length(packed, k);
-        voff = next;
-        i += 2;
+    let mut last = 0;
+    for entry in lengths.chunks_exact(request::ENTRY) {
+        let klen = entry[0];
+        let vlen = request::value_length(entry[1]);
+        let next = last + layout::padded_length(packed, vlen);
+        let voff = offset_for(entry[1], next);
+        let slot = Slot {
+            koff,
+            klen,
+            voff,
+            vlen,
+        };
+        end = put_slot(node, end, sizes, slot);
+        koff += layout::padded_length(packed, klen);
+        last = next;
     }
     end
 }
@@ -195,17 +192,15 @@ fn put_pairs(
     let mut first = at;
     let mut last = end;
     let mut p = 0;
-    let mut i = 0;
-    while i < lengths.len() {
-        let k = lengths[i] as usize;
-        let n = request::value_length(lengths[i + 1]) as usize;
+    for entry in lengths.chunks_exact(request::ENTRY) {
+        let k = entry[0] as usize;
+        let n = request::value_length(entry[1]) as usize;
         let key = piece_at(parts, p, k);
         first = put_padded(node, first, packed, key);
         let value = piece_at(parts, p + k, n);
         last = last - layout::padded_length(packed, n as u64) as usize;
         put_padded(node, last, packed, value);
         p = p + k + n;
-        i += 2;
     }
     first
 }

@@ -2,7 +2,7 @@
 use mathlib.Core.Path.{◌≡◌, refl, sym, ap, ◌∙◌}
 use mathlib.Core.Bool.{Bool, true, false, not, ◌||◌, ◌&&◌}
 use mathlib.Core.List.{List}
-use mathlib.Core.Option.{Option, some, none}
+use Rattle.std.specs.Prelude.{Option, Some, None}
 use Prim.Native.Nat.{ℕ, ◌+◌, ◌-◌, ◌*◌, ◌/◌, ◌^◌, ◌≤◌, ◌<◌}
 use native.Mathlib.Decide.{dec_le}
 use native.Mathlib.Omega.{arith}
@@ -11,36 +11,25 @@ use lib.ListN.{length, take, drop}
 use borrow.Author.Tests.{le-leb, lt-leb, leb-true, leb-false, eq-eqb, ne_eqb, not-true, not-false}
 use Rattle.fields.specs.Choice.{pick}
 use Rattle.fields.specs.Fields.{num, field_at, bit}
-use Rattle.fields.specs.declared.Field.{Field}
-use Rattle.fields.specs.declared.Field.TheVariants as found
+use Rattle.std.specs.Prelude.{Result, Ok, Err, IsErrAnd}
+use Rattle.std.specs.Option.{ok_or}
+use Rattle.std.specs.Borrow.{Bor}
 use Rattle.fields.proofs.Laws.{field_there, field_absent}
 use Rattle.fields.specs.Header.{kind_of, object_map_kind}
 use Rattle.blocks.specs.Reads.{Reads, Outcome, given, refused, run, done, ◌>>=◌, need}
 use Rattle.blocks.specs.Blocks.{read_object, present, field, part}
-use Rattle.blocks.specs.clauses.Answers.{there_as}
-use Rattle.blocks.specs.declared.Presence.{Presence}
-use Rattle.blocks.specs.declared.Presence.TheVariants.{There, Refused}
+use Rattle.blocks.specs.clauses.Answers.{outcome, there_as, slice_as}
 use Rattle.blocks.specs.declared.Refusal.{Refusal}
 use Rattle.blocks.specs.declared.Address.{Address}
 use Rattle.blocks.specs.declared.Container.{Container}
 use Rattle.blocks.specs.declared.Refusal.TheVariants.{WrongKind, BadNode, OutsideBytes}
-use Rattle.blocks.proofs.Laws.{need_true, need_false, need_held, both, then_given, then_refused, object_given}
+use Rattle.blocks.proofs.Laws.{need_true, need_false, need_held, both, then_given, then_refused, is_refused, object_given}
 use Rattle.nodes.specs.Node.{is_root, is_leaf, is_fixed, table_at, keys_at, description_length, value_end, parse, read_node, describe, fixed_slot, variable_slot, slot, ghost_offset, value_of, entry, pointer}
 use Rattle.nodes.specs.declared.Description.{Description}
 use Rattle.nodes.specs.declared.Slot.{Slot}
 use Rattle.nodes.specs.declared.Part.{Part}
-use Rattle.nodes.specs.declared.Value.{Value}
-use Rattle.nodes.specs.declared.Value.TheVariants.{Ghost, At}
 use Rattle.nodes.specs.ObjectMap.{tree_type, physical, root_address, read_object_map, describe_map, load_object_map}
 use Rattle.nodes.specs.clauses.Answers.{is_plain, is_sound, part_in, value_in}
-
--- what was read, by the answer to whether it may be
-module _ {A : Type 0} (a : A) (o : Outcome A) (r : Presence) (e : there_as a r ≡ o) where
-  pub seen_there : r ≡ There → o ≡ given a
-  seen_there t = sym e ∙ ap (there_as a) t
-
-  pub seen_refused : (x : Refusal) → r ≡ Refused x → o ≡ refused x
-  seen_refused x t = sym e ∙ ap (there_as a) t
 
 -- a kind that may be either of two
 module _ (k kind m n : ℕ) (q : k ≡ kind) where
@@ -134,10 +123,11 @@ module _ (f : ℕ → List ℕ) (c : Container) (a : Address) where
   unfolding read_node
   node_refused r e = then_refused f _ _ r e
 
-  -- b is the block that was read
-  pub node_parsed : (b : List ℕ) → b ≡ f a.0 → (o : Presence) → there_as (f a.0) o ≡ run f (read_object c a) → o ≡ There → (r : Presence) → there_as b r ≡ run f (parse b) → there_as (f a.0) r ≡ run f (read_node c a)
-  unfolding read_node
-  node_parsed b q o s there r p = (rw q at p) ∙ sym (then_given f _ _ _ (seen_there _ _ o s there))
+-- a node is the bytes that were tested
+module _ (f : ℕ → List ℕ) (b : List ℕ) (r : Result (Unit {0}) Refusal) (e : there_as b r ≡ run f (parse b)) where
+  pub node_refused_by : (x : Refusal) → r ≡ Err x → (s : Result (Bor (List ℕ)) Refusal) → IsErrAnd s (λ y. y ≡ x) → slice_as s ≡ run f (parse b)
+  node_refused_by x q (Err y) h = ap refused h ∙ sym (is_refused _ r f (parse b) e x q)
+  node_refused_by x q (Ok n) h = absurd h
 
 -- what a test for room tells
 module _ (at len n : ℕ) (r : Bool) (q : r ≡ leb (at + len) n) where
@@ -217,7 +207,7 @@ module _ (f : ℕ → List ℕ) (n : ℕ) (b : List ℕ) (off : ℕ) where
 
 -- a row's value
 module _ (f : ℕ → List ℕ) (b : List ℕ) (s : Slot) where
-  pub value_ghost : s.voff ≡ ghost_offset → run f (value_of b s) ≡ given none
+  pub value_ghost : s.voff ≡ ghost_offset → run f (value_of b s) ≡ given None
   unfolding run value_of
   value_ghost g = simp (eq-eqb _ _ g)
 
@@ -228,119 +218,43 @@ module _ (f : ℕ → List ℕ) (b : List ℕ) (s : Slot) where
 
     -- at is where it begins
     module _ (h : s.voff ≤ value_end b) (at : ℕ) (q : at ≡ value_end b - s.voff) where
-      value_cut : run f (value_of b s) ≡ run f (part s.vlen b at >>= λ v. done (some v))
+      pub value_cut : run f (value_of b s) ≡ run f (part s.vlen b at >>= λ v. done (Some v))
       unfolding run value_of need ◌>>=◌
       value_cut = simp (ne_eqb _ _ g, le-leb _ _ h, ← q)
 
-      pub value_refused : (r : Refusal) → run f (part s.vlen b at) ≡ refused r → run f (value_of b s) ≡ refused r
-      value_refused r e = value_cut ∙ then_refused f _ _ r e
-
-      pub value_given : (v : List ℕ) → run f (part s.vlen b at) ≡ given v → run f (value_of b s) ≡ given (some v)
-      unfolding run
-      value_given v e = value_cut ∙ then_given f _ _ v e
-
--- an entry's steps, in their order
-module _ (f : ℕ → List ℕ) (d : Description) (b : List ℕ) (i : ℕ) where
-  pub entry_no_slot : (r : Refusal) → run f (slot d b i) ≡ refused r → run f (entry d b i) ≡ refused r
-  unfolding entry
-  entry_no_slot r e = then_refused f _ _ r e
-
-  module _ (s : Slot) (e : run f (slot d b i) ≡ given s) where
-    pub entry_no_key : (r : Refusal) → run f (part s.klen b (keys_at b + s.koff)) ≡ refused r → run f (entry d b i) ≡ refused r
-    unfolding entry
-    entry_no_key r p = then_given f _ _ s e ∙ then_refused f _ _ r p
-
-    module _ (k : List ℕ) (p : run f (part s.klen b (keys_at b + s.koff)) ≡ given k) where
-      pub entry_no_value : (r : Refusal) → run f (value_of b s) ≡ refused r → run f (entry d b i) ≡ refused r
-      unfolding entry
-      entry_no_value r q = then_given f _ _ s e ∙ (then_given f _ _ k p ∙ then_refused f _ _ r q)
-
-      pub entry_given : (v : Option (List ℕ)) → run f (value_of b s) ≡ given v → run f (entry d b i) ≡ given (record { key = k; value = v })
-      unfolding run entry
-      entry_given v q = then_given f _ _ s e ∙ (then_given f _ _ k p ∙ then_given f _ _ v q)
-
 -- a field, by what a reader of it found
-module _ (f : ℕ → List ℕ) (w : ℕ) (b : List ℕ) (off : ℕ) (r : Field) (is : r ≡ field_at w b off) where
-  pub field_value : (v : ℕ) → r ≡ found.Value v → run f (field w b off) ≡ given v
-  unfolding run field present
-  field_value v e = rw (← is, e)
+module _ (f : ℕ → List ℕ) (w : ℕ) (b : List ℕ) (off : ℕ) where
+  present_found : (r : Option ℕ) → outcome (ok_or r OutsideBytes) ≡ run f (present r)
+  unfolding run present
+  present_found (Some v) = refl
+  present_found None = refl
 
-  pub field_none : r ≡ found.Absent → run f (field w b off) ≡ refused OutsideBytes
-  unfolding run field present
-  field_none e = rw (← is, e)
+  pub field_found : (r : Option ℕ) → r ≡ field_at w b off → outcome (ok_or r OutsideBytes) ≡ run f (field w b off)
+  unfolding field
+  field_found r e = present_found r ∙ ap (λ x. run f (present x)) e
 
 -- a pointer is the first field of a value
-module _ (f : ℕ → List ℕ) (b : List ℕ) (v : Value) where
-  pub pointer_ghost : v ≡ Ghost → run f (pointer (value_in b v)) ≡ refused OutsideBytes
-  unfolding run pointer
-  pointer_ghost e = rw e
-
-  pub pointer_field : (p : Part) → v ≡ At p → run f (pointer (value_in b v)) ≡ run f (field 8 (part_in b p) 0)
-  unfolding pointer
-  pointer_field p e = rw e
-
--- the object map's steps, in their order
-module _ (f : ℕ → List ℕ) (c : Container) (a : Address) where
-  pub map_unread : (r : Refusal) → run f (read_object c a) ≡ refused r → run f (read_object_map c a) ≡ refused r
-  unfolding read_object_map
-  map_unread r e = then_refused f _ _ r e
-
-  -- b is the block that was read; then its fields, as they were
-  module _ (b : List ℕ) (q : b ≡ f a.0) (o : Presence) (s : there_as (f a.0) o ≡ run f (read_object c a)) (there : o ≡ There) (kind : ℕ) (is : kind ≡ kind_of b) where
-    read_here : run f (read_object c a) ≡ given b
-    read_here = seen_there _ _ o s there ∙ ap given (sym q)
-
-    pub map_kind : (kind ≡ object_map_kind → ⊥) → run f (read_object_map c a) ≡ refused WrongKind
-    unfolding read_object_map
-    map_kind k = then_given f _ _ b read_here ∙ need_false f _ _ _ (ne_eqb _ _ (rw is at k))
-
-    module _ (k : kind ≡ object_map_kind) (type : ℕ) (t : type ≡ tree_type b) where
-      map_tested : run f (read_object_map c a) ≡ run f (need (eqb (type / 2 ^ 30) physical) WrongKind >>= λ _. done (root_address b))
-      unfolding read_object_map
-      map_tested = then_given f _ _ b read_here ∙ (need_true f _ _ _ (eq-eqb _ _ (sym is ∙ k)) ∙ rw t)
-
-      pub map_stored : (type / 2 ^ 30 ≡ physical → ⊥) → run f (read_object_map c a) ≡ refused WrongKind
-      map_stored p = map_tested ∙ need_false f _ _ _ (ne_eqb _ _ p)
-
-      pub map_root : type / 2 ^ 30 ≡ physical → (n : ℕ) → n ≡ num 8 b 48 → run f (read_object_map c a) ≡ given (record { 0 = n })
-      unfolding run
-      map_root p n r = map_tested ∙ (need_true f _ _ _ (eq-eqb _ _ p) ∙ rw r)
-
--- its tree's description
 module _ (f : ℕ → List ℕ) (b : List ℕ) where
-  pub tree_undescribed : (r : Refusal) → run f (describe b) ≡ refused r → run f (describe_map b) ≡ refused r
-  unfolding describe_map
-  tree_undescribed r e = then_refused f _ _ r e
+  pub pointer_ghost : (v : Option Part) (x : Refusal) → ok_or v OutsideBytes ≡ Err x → (s : Result ℕ Refusal) → IsErrAnd s (λ y. y ≡ x) → outcome s ≡ run f (pointer (value_in b v))
+  unfolding run pointer
+  pointer_ghost None x e (Err y) q = let same : OutsideBytes ≡ x = cc in ap refused (q ∙ sym same)
+  pointer_ghost None x e (Ok n) q = absurd q
+  pointer_ghost (Some p) x e s q = let z : ◌≡◌ {A = ℕ} 0 1 = cc in absurd (omega arith)
 
-  module _ (d : Description) (e : run f (describe b) ≡ given d) where
-    pub tree_other : (bit 4 d.flags && eqb d.key 16 && eqb d.value 16) ≡ false → run f (describe_map b) ≡ refused BadNode
-    unfolding describe_map
-    tree_other h = then_given f _ _ d e ∙ need_false f _ _ _ h
+  pub pointer_field : (v : Option Part) (p : Part) → ok_or v OutsideBytes ≡ Ok p → run f (pointer (value_in b v)) ≡ run f (field 8 (part_in b p) 0)
+  unfolding pointer
+  pointer_field None p e = let z : ◌≡◌ {A = ℕ} 0 1 = cc in absurd (omega arith)
+  pointer_field (Some q) p e = let same : q ≡ p = cc in rw same
 
-    pub tree_described : (bit 4 d.flags && eqb d.key 16 && eqb d.value 16) ≡ true → run f (describe_map b) ≡ given d
-    unfolding run describe_map
-    tree_described h = then_given f _ _ d e ∙ need_true f _ _ _ h
+-- what an object map's header asks for
+module _ (f : ℕ → List ℕ) (b : List ℕ) (kind : ℕ) (is : kind ≡ kind_of b) where
+  pub map_kind : {A : Type 0} (k : Unit {0} → Reads A) → (kind ≡ object_map_kind → ⊥) → refused WrongKind ≡ run f (need (eqb (kind_of b) object_map_kind) WrongKind >>= k)
+  map_kind k h = sym (need_false f _ _ _ (ne_eqb _ _ (rw is at h)))
 
--- its loading
-module _ (f : ℕ → List ℕ) (c : Container) (a : Address) where
-  pub load_unread : (r : Refusal) → run f (read_object_map c a) ≡ refused r → run f (load_object_map c a) ≡ refused r
-  unfolding load_object_map
-  load_unread r e = then_refused f _ _ r e
+  module _ (h : kind ≡ object_map_kind) (type : ℕ) (t : type ≡ tree_type b) where
+    pub map_stored : (type / 2 ^ 30 ≡ physical → ⊥) → refused WrongKind ≡ run f (need (eqb (kind_of b) object_map_kind) WrongKind >>= λ _. need (eqb (tree_type b / 2 ^ 30) physical) WrongKind >>= λ _. done (root_address b))
+    map_stored p = sym (need_true f _ _ _ (eq-eqb _ _ (sym is ∙ h)) ∙ need_false f _ _ _ (ne_eqb _ _ (rw t at p)))
 
-  module _ (root : Address) (e : run f (read_object_map c a) ≡ given root) where
-    pub load_no_node : (r : Refusal) → run f (read_node c root) ≡ refused r → run f (load_object_map c a) ≡ refused r
-    unfolding load_object_map
-    load_no_node r n = then_given f _ _ root e ∙ then_refused f _ _ r n
-
-    -- b is the block that was read
-    module _ (b : List ℕ) (q : b ≡ f root.0) (o : Presence) (s : there_as (f root.0) o ≡ run f (read_node c root)) (there : o ≡ There) where
-      node_here : run f (read_node c root) ≡ given b
-      node_here = seen_there _ _ o s there ∙ ap given (sym q)
-
-      pub load_no_tree : (r : Refusal) → run f (describe_map b) ≡ refused r → run f (load_object_map c a) ≡ refused r
-      unfolding load_object_map
-      load_no_tree r t = then_given f _ _ root e ∙ (then_given f _ _ b node_here ∙ then_refused f _ _ r t)
-
-      pub load_given : (d : Description) → run f (describe_map b) ≡ given d → run f (load_object_map c a) ≡ given root
-      unfolding run load_object_map
-      load_given d t = then_given f _ _ root e ∙ (then_given f _ _ b node_here ∙ then_given f _ _ d t)
+    pub map_root : type / 2 ^ 30 ≡ physical → (n : ℕ) → n ≡ num 8 b 48 → given (record { 0 = n }) ≡ run f (need (eqb (kind_of b) object_map_kind) WrongKind >>= λ _. need (eqb (tree_type b / 2 ^ 30) physical) WrongKind >>= λ _. done (root_address b))
+    unfolding run
+    map_root p n r = sym (need_true f _ _ _ (eq-eqb _ _ (sym is ∙ h)) ∙ (need_true f _ _ _ (eq-eqb _ _ (rw t at p)) ∙ rw r))

@@ -1,8 +1,6 @@
 // Nodes of trees (btree.rs) and the object map (omap.rs).
 #![tactic(auto)]
 
-use blocks::Refusal;
-
 pub mod entries;
 pub mod node;
 pub mod object_map;
@@ -31,46 +29,9 @@ pub struct Part {
     pub len: u64,
 }
 
-#[derive(Clone, Copy)]
-pub enum Value {
-    Ghost,
-    At(Part),
-}
-
-// Where an entry's key and value stand in their node.
+// Where an entry's key and value stand in their node; a ghost has no value.
 #[derive(Clone, Copy)]
 pub struct EntryPlace {
     pub key: Part,
-    pub value: Value,
-}
-
-#[derive(Clone, Copy)]
-pub enum DescriptionAnswer {
-    Given(Description),
-    Refused(Refusal),
-}
-
-#[derive(Clone, Copy)]
-pub(crate) enum SlotAnswer {
-    Given(Slot),
-    Refused(Refusal),
-}
-
-// A part that must lie wholly inside its node.
-#[derive(Clone, Copy)]
-pub(crate) enum PartAnswer {
-    Given(Part),
-    Refused(Refusal),
-}
-
-#[derive(Clone, Copy)]
-pub(crate) enum ValueAnswer {
-    Given(Value),
-    Refused(Refusal),
-}
-
-#[derive(Clone, Copy)]
-pub enum EntryAnswer {
-    Given(EntryPlace),
-    Refused(Refusal),
+    pub value: Option<Part>,
 }

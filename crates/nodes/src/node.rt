@@ -1,13 +1,13 @@
 // A node's header, and which nodes are taken.
 ghost use Rattle.std.specs.Prelude.{◌≡◌, ◌-◌, ◌^◌, ◌<◌, ◌≤◌, length};
 ghost use Rattle.blocks.specs.clauses.Images.{bytes};
-ghost use Rattle.blocks.specs.clauses.Answers.{there_as, Always, Sees};
+ghost use Rattle.blocks.specs.clauses.Answers.{there_as, outcome, Always, Sees};
 ghost use Rattle.nodes.specs.Node.{is_root, is_leaf, is_fixed, is_hashed, level_of, key_count, table_at, keys_at, description_length, value_end};
 ghost use Rattle.nodes.specs.Node.{read_node, parse as parse_of, describe as describe_of};
-ghost use Rattle.nodes.specs.clauses.Answers.{is_node, is_plain, is_sound, description_as};
+ghost use Rattle.nodes.specs.clauses.Answers.{is_node, is_plain, is_sound};
 
-use crate::{Description, DescriptionAnswer};
-use blocks::{Address, Container, Presence, Refusal};
+use crate::Description;
+use blocks::{Address, Container, Refusal};
 
 const ROOT_NODE: u64 = 2;
 
@@ -136,44 +136,36 @@ fn is_sound(node: &[u8]) -> bool
 }
 
 // Whether bytes are a node that can be taken apart.
-fn parse(node: &[u8]) -> Presence
+fn parse(node: &[u8]) -> Result<(), Refusal>
     ensures { Always (there_as (bytes node) result) (parse_of (bytes node)) }
 {
     let plain = is_plain(node);
     let sound = is_sound(node);
     if !plain {
-        return Presence::Refused(Refusal::WrongKind);
+        return Err(Refusal::WrongKind);
     }
-    if !sound {
-        return Presence::Refused(Refusal::BadNode);
-    }
-    Presence::There
+    if sound { Ok(()) } else { Err(Refusal::BadNode) }
 }
 
-// Whether the node at an address may be read: what is read is its block.
-pub fn read_node(image: &[u8], container: Container, address: Address) -> Presence
-    ensures { Sees image container address result (read_node container address) }
+// The node at an address, whole.
+pub fn read_node(image: &[u8], container: Container, address: Address) -> Result<&[u8], Refusal>
+    ensures { Sees image container result (read_node container address) }
 {
-    let seen = blocks::object_block(image, container, address);
-    match seen {
-        Presence::Refused(r) => Presence::Refused(r),
-        Presence::There => {
-            let node = blocks::block(image, container.size, address);
-            parse(node)
-        }
-    }
+    let node = blocks::object_block(image, container, address)?;
+    parse(node)?;
+    Ok(node)
 }
 
 // What a root says of its tree; no other node says it.
-pub fn describe(node: &[u8]) -> DescriptionAnswer
-    ensures { Always (description_as result) (describe_of (bytes node)) }
+pub fn describe(node: &[u8]) -> Result<Description, Refusal>
+    ensures { Always (outcome result) (describe_of (bytes node)) }
 {
     if !is_root(node) {
-        return DescriptionAnswer::Refused(Refusal::BadNode);
+        return Err(Refusal::BadNode);
     }
     let at = description_at(node);
     let flags = fields::u32_of(node, at);
     let key = fields::u32_of(node, at + KEY_SIZE);
     let value = fields::u32_of(node, at + VALUE_SIZE);
-    DescriptionAnswer::Given(Description { flags, key, value })
+    Ok(Description { flags, key, value })
 }

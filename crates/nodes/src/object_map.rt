@@ -3,13 +3,13 @@ ghost use Rattle.std.specs.Prelude.{◌≡◌, ◌&&◌, eqb};
 ghost use Rattle.fields.specs.Fields.{bit};
 ghost use Rattle.blocks.specs.Reads.{run};
 ghost use Rattle.blocks.specs.clauses.Images.{bytes, blocks_in};
-ghost use Rattle.blocks.specs.clauses.Answers.{address_as, Always};
+ghost use Rattle.blocks.specs.clauses.Answers.{outcome, Always};
 ghost use Rattle.nodes.specs.ObjectMap.{read_object_map, describe_map, load_object_map, is_deleted};
-ghost use Rattle.nodes.specs.clauses.Answers.{description_as, part_in};
+ghost use Rattle.nodes.specs.clauses.Answers.{part_in};
 
 use crate::node::{describe, read_node};
-use crate::{Description, DescriptionAnswer, Part};
-use blocks::{Address, AddressAnswer, Container, Presence, Refusal};
+use crate::{Description, Part};
+use blocks::{Address, Container, Refusal};
 
 const OBJECT_MAP: u64 = 11;
 
@@ -41,23 +41,17 @@ pub const MAPPING_ADDRESS: usize = 8;
 const DELETED: u64 = 0;
 
 // The address of the tree's root.
-fn read_object_map(image: &[u8], container: Container, address: Address) -> AddressAnswer
-    ensures { address_as result ≡ run (blocks_in image.entry container) (read_object_map container address) }
+fn read_object_map(image: &[u8], container: Container, address: Address) -> Result<Address, Refusal>
+    ensures { outcome result ≡ run (blocks_in image.entry container) (read_object_map container address) }
 {
-    let seen = blocks::object_block(image, container, address);
-    match seen {
-        Presence::Refused(r) => AddressAnswer::Refused(r),
-        Presence::There => {
-            let object = blocks::block(image, container.size, address);
-            if fields::kind(object) != OBJECT_MAP {
-                return AddressAnswer::Refused(Refusal::WrongKind);
-            }
-            if fields::u32_of(object, TREE_TYPE) >> STORAGE != PHYSICAL {
-                return AddressAnswer::Refused(Refusal::WrongKind);
-            }
-            AddressAnswer::Given(Address(fields::u64_of(object, TREE_ROOT)))
-        }
+    let object = blocks::object_block(image, container, address)?;
+    if fields::kind(object) != OBJECT_MAP {
+        return Err(Refusal::WrongKind);
     }
+    if fields::u32_of(object, TREE_TYPE) >> STORAGE != PHYSICAL {
+        return Err(Refusal::WrongKind);
+    }
+    Ok(Address(fields::u64_of(object, TREE_ROOT)))
 }
 
 // Whether a tree is such as an object map has.
@@ -71,43 +65,28 @@ fn is_map(description: Description) -> bool
 }
 
 // What a root says of its tree, which must be an object map's.
-fn describe_map(node: &[u8]) -> DescriptionAnswer
-    ensures { Always (description_as result) (describe_map (bytes node)) }
+fn describe_map(node: &[u8]) -> Result<Description, Refusal>
+    ensures { Always (outcome result) (describe_map (bytes node)) }
 {
-    let described = describe(node);
-    match described {
-        DescriptionAnswer::Refused(r) => DescriptionAnswer::Refused(r),
-        DescriptionAnswer::Given(d) => {
-            if !is_map(d) {
-                return DescriptionAnswer::Refused(Refusal::BadNode);
-            }
-            DescriptionAnswer::Given(d)
-        }
+    let description = describe(node)?;
+    if !is_map(description) {
+        return Err(Refusal::BadNode);
     }
+    Ok(description)
 }
 
 // The address of the tree's root, once the root is read and says what tree it has.
-pub fn load_object_map(image: &[u8], container: Container, address: Address) -> AddressAnswer
-    ensures { address_as result ≡ run (blocks_in image.entry container) (load_object_map container address) }
+pub fn load_object_map(
+    image: &[u8],
+    container: Container,
+    address: Address,
+) -> Result<Address, Refusal>
+    ensures { outcome result ≡ run (blocks_in image.entry container) (load_object_map container address) }
 {
-    let found = read_object_map(image, container, address);
-    match found {
-        AddressAnswer::Refused(r) => AddressAnswer::Refused(r),
-        AddressAnswer::Given(root) => {
-            let seen = read_node(image, container, root);
-            match seen {
-                Presence::Refused(r) => AddressAnswer::Refused(r),
-                Presence::There => {
-                    let node = blocks::block(image, container.size, root);
-                    let described = describe_map(node);
-                    match described {
-                        DescriptionAnswer::Refused(r) => AddressAnswer::Refused(r),
-                        DescriptionAnswer::Given(_) => AddressAnswer::Given(root),
-                    }
-                }
-            }
-        }
-    }
+    let root = read_object_map(image, container, address)?;
+    let node = read_node(image, container, root)?;
+    describe_map(node)?;
+    Ok(root)
 }
 
 // Whether a mapping was deleted, by the flags that its value begins with.

@@ -16,12 +16,12 @@ use Rattle.pool.specs.declared.PoolPlace.{PoolPlace}
 
 -- as many bytes as the bitmap's blocks have, each where its block is
 module _ (f : ℕ → List ℕ) (size : ℕ) (p : PoolPlace) where
-  pub bytes_length : (left j : ℕ) → length (bitmap_bytes f size p left j) ≡ left
+  bytes_length : (left j : ℕ) → length (bitmap_bytes f size p left j) ≡ left
   unfolding bitmap_bytes
   bytes_length zero j = refl
   bytes_length (suc left) j = ap suc (bytes_length left (suc j))
 
-  pub bytes_at : (left j i : ℕ) → i < left → get_or (bitmap_bytes f size p left j) i 0 ≡ bitmap_byte f size p (j + i)
+  bytes_at : (left j i : ℕ) → i < left → get_or (bitmap_bytes f size p left j) i 0 ≡ bitmap_byte f size p (j + i)
   unfolding bitmap_bytes
   bytes_at zero j i h = elim h [ ]
   bytes_at (suc left) j zero h = ap (bitmap_byte f size p) (omega arith)
@@ -35,23 +35,23 @@ module _ (f : ℕ → List ℕ) (size : ℕ) (p : PoolPlace) where
   unfolding bitmap_in
   bitmap_there j h = bytes_at (p.bitmaps * size) 0 j h ∙ ap (bitmap_byte f size p) (omega arith)
 
-  pub bitmap_past : (j : ℕ) → p.bitmaps * size ≤ j → get_or (bitmap_in f size p) j 0 ≡ 0
+  bitmap_past : (j : ℕ) → p.bitmaps * size ≤ j → get_or (bitmap_in f size p) j 0 ≡ 0
   bitmap_past j h = get_or-eq_default (bitmap_in f size p) 0 (omega (arith, bitmap_length))
 
   pub byte_none : (j : ℕ) → size ≡ 0 → get_or (bitmap_in f size p) j 0 ≡ 0
   byte_none j e = bitmap_past j (rw (e, mul-zero) (omega arith))
 
   -- a block by its number
-  pub block_past : (k : ℕ) → p.bitmaps ≤ k → block_in f size p k ≡ []
+  block_past : (k : ℕ) → p.bitmaps ≤ k → block_in f size p k ≡ []
   unfolding block_in
   block_past k h = rw (le-ltb k p.bitmaps h) refl
 
-  pub block_there : (k : ℕ) → k < p.bitmaps → (at : ℕ) → at ≡ ring_place f size p k → (b : List ℕ) → b ≡ f (p.ring + at) → b ≡ block_in f size p k
+  block_there : (k : ℕ) → k < p.bitmaps → (at : ℕ) → at ≡ ring_place f size p k → (b : List ℕ) → b ≡ f (p.ring + at) → b ≡ block_in f size p k
   unfolding block_in bitmap_block
   block_there k h at q b r = rw (r, q, lt-ltb k p.bitmaps h) refl
 
   -- byte t of block k
-  pub block_byte : (k t : ℕ) → t < size → get_or (block_in f size p k) t 0 ≡ get_or (bitmap_in f size p) (k * size + t) 0
+  block_byte : (k t : ℕ) → t < size → get_or (block_in f size p k) t 0 ≡ get_or (bitmap_in f size p) (k * size + t) 0
   unfolding bitmap_byte bitmap_block
   block_byte k t h = go (dec_le p.bitmaps k)
     where
@@ -83,13 +83,6 @@ module _ (image : List ℕ) (size : ℕ) (p : PoolPlace) (k : ℕ) where
   pub block_part : (first : ℕ) → first ≡ k * size → (b : List ℕ) → b ≡ block_in (block_of image size) size p k → PartOf b first (bitmap_in (block_of image size) size p)
   block_part first q b e = rw (q, e) (record { same = λ j h. block_byte (block_of image size) size p k j (omega (arith, block_most)) })
 
--- no part at all, and a byte of the part that is at hand
-pub none_part : (b whole : List ℕ) → b ≡ [] → PartOf b 0 whole
-none_part b whole e = rw e (record { same = λ j h. absurd (omega arith) })
-
-pub part_byte : (part whole : List ℕ) (first j : ℕ) → PartOf part first whole → first ≤ j → j - first < length part → get_or part (j - first) 0 ≡ get_or whole j 0
-part_byte part whole first j h low there = h.same (j - first) there ∙ ap (λ n. get_or whole n 0) (omega arith)
-
 -- the block at a place of the pool, and the place of that block
 pub index_of : (base i : ℕ) → i < 2 ^ 64 → pool_index (base + i) base ≡ i
 index_of base i h = omega arith
@@ -103,20 +96,10 @@ pub bit_none : (bits : List ℕ) (j : ℕ) → get_or bits j 0 ≡ 0 → (i : �
 unfolding bit_at
 bit_none bits j z i low high = let at : i / 8 ≡ j = omega arith in rw (at, z, zero-div) refl
 
--- what the count finds at a place
-module _ (c : Container) (map : List ℕ) (a : ℕ) (marked : Bool) where
-  pub one_unmarked : marked ≡ false → 0 ≡ unused_one c map marked a
-  unfolding unused_one
-  one_unmarked h = rw h refl
-
-  module _ (h : marked ≡ true) (u : Bool) (q : u ≡ used_at c map a) where
-    pub one_used : u ≡ true → 0 ≡ unused_one c map marked a
-    unfolding unused_one
-    one_used k = rw (← q, h, k) refl
-
-    pub one_unused : u ≡ false → 1 ≡ unused_one c map marked a
-    unfolding unused_one
-    one_unused k = rw (← q, h, k) refl
+-- an unmarked place counts nothing
+one_unmarked : (c : Container) (map : List ℕ) (a : ℕ) (marked : Bool) → marked ≡ false → 0 ≡ unused_one c map marked a
+unfolding unused_one
+one_unmarked c map a marked h = rw h refl
 
 -- the count: what is left from place i on gives the whole
 plus_pick : (t : Bool) (n : ℕ) → n + pick t 1 0 ≡ pick t (n + 1) n
@@ -156,24 +139,28 @@ module _ (c : Container) (p : Pool) (map : List ℕ) where
   count_then (suc left) more a n =
       let next : a + suc left ≡ a + 1 + left = omega arith in rw (suc-add, next) (count_then left more (a + 1) _)
 
--- of the places from first to end, those from i on are left, and n are counted
-abbrev pub Counted : Container → Pool → List ℕ → ℕ → ℕ → ℕ → ℕ → ℕ → Type 0
-Counted c p map first end n₀ i n = unused_from c p map (end - i) (p.base + i) n ≡ unused_from c p map (end - first) (p.base + first) n₀
+-- of the places from first to end, those from i on are left, and n are counted: no more than lie before i
+pub record Counted (c : Container) (p : Pool) (map : List ℕ) (first end n₀ i n : ℕ) : Type 0 where
+  pub whole : unused_from c p map (end - i) (p.base + i) n ≡ unused_from c p map (end - first) (p.base + first) n₀
+  pub few : n ≤ i
 
-module _ (c : Container) (p : Pool) (map : List ℕ) (first end n₀ i n : ℕ) (left : Counted c p map first end n₀ i n) where
-  pub counted_more : i < end → end ≤ p.blocks → i < 2 ^ 64 → (t : Bool) → t ≡ bit_at p.bits i → (r : ℕ) → r ≡ unused_one c map t (p.base + i) → Counted c p map first end n₀ (i + 1) (n + r)
-  counted_more h inside fits t e r q =
+module _ {c : Container} {p : Pool} {map : List ℕ} {first end n₀ i n : ℕ} (left : Counted c p map first end n₀ i n) where
+  pub counted_more : i < end → end ≤ p.blocks → i < 2 ^ 64 → (t : Bool) → t ≡ bit_at p.bits i → (r : ℕ) → r ≡ unused_one c map t (p.base + i) → r ≤ 1 → Counted c p map first end n₀ (i + 1) (n + r)
+  counted_more h inside fits t e r q one =
       let more : end - i ≡ suc (end - (i + 1)) = omega arith in
-      let below : i < p.blocks = omega arith in rw (q, e) (sym (count_one c p map (end - (i + 1)) i n below fits) ∙ rw more at left)
+      let below : i < p.blocks = omega arith in record {
+        whole = rw (q, e) (sym (count_one c p map (end - (i + 1)) i n below fits) ∙ rw more at left.whole);
+        few = omega (arith, left.few);
+      }
 
   pub counted_span : (k : ℕ) → i ≤ k → k ≤ end → (r : ℕ) → r ≡ unused_from c p map (k - i) (p.base + i) n → Counted c p map first end n₀ k r
   counted_span k low high r q =
       let all : end - i ≡ k - i + (end - k) = omega arith in
-      let place : p.base + k ≡ p.base + i + (k - i) = omega arith in rw (q, place) (sym (count_then c p map (k - i) (end - k) (p.base + i) n) ∙ rw all at left)
-
-  pub counted_few : (k : ℕ) → n ≤ i → i ≤ k → (r : ℕ) → r ≡ unused_from c p map (k - i) (p.base + i) n → r ≤ k
-  counted_few k h low r q = omega (arith, q, count_few c p map (k - i) (p.base + i) n)
+      let place : p.base + k ≡ p.base + i + (k - i) = omega arith in record {
+        whole = rw (q, place) (sym (count_then c p map (k - i) (end - k) (p.base + i) n) ∙ rw all at left.whole);
+        few = omega (arith, q, left.few, count_few c p map (k - i) (p.base + i) n);
+      }
 
   pub counted_done : end ≤ i → n ≡ unused_from c p map (end - first) (p.base + first) n₀
   unfolding unused_from
-  counted_done h = let none : end - i ≡ 0 = omega arith in rw none at left
+  counted_done h = let none : end - i ≡ 0 = omega arith in rw none at left.whole

@@ -11,7 +11,7 @@ ghost use Rattle.pool.specs.clauses.Place.{pool_on, bitmap_on, bitmap_block_on, 
 ghost use Rattle.pool.specs.clauses.Unused.{unused_one, byte_end, piece_end, Places, OneByte};
 ghost use Rattle.pool.specs.clauses.Load.{place_on, indices_on, BitmapSeen, BitmapsSeen, LoadsPool};
 
-use blocks::{Container, Presence, Refusal};
+use blocks::{Address, Container, Refusal};
 use fields::BYTE_BITS;
 use manager::{Manager, lists, offsets, place};
 
@@ -34,17 +34,14 @@ pub struct PoolPlace {
 pub fn pool_index(block: u64, base: u64) -> u64
     ensures { result ≡ pool_index block base }
 {
-    std::num::wrapping_sub_u64(block, base)
+    block.wrapping_sub(base)
 }
 
 // Which block of a bitmap has a bit.
 pub fn block_of_bit(size: u64, bit: u64) -> u64
     ensures { result ≡ bit / 8 / size }
 {
-    if size == 0 {
-        return 0;
-    }
-    bit / BYTE_BITS / size
+    (bit / BYTE_BITS).checked_div(size).unwrap_or(0)
 }
 
 // Block index of the bitmap; empty past its end.
@@ -52,10 +49,9 @@ pub fn bitmap_block(image: &[u8], container: Container, pool: PoolPlace, index: 
     ensures { result.now ≡ bitmap_block_on image container pool index }
 {
     if pool.bitmaps <= index {
-        return fields::part_of(image, image.len(), 0);
+        return &[];
     }
-    let manager = pool.manager;
-    let at = lists::index_at(image, container, manager, pool.indices, index);
+    let at = lists::index_at(image, container, pool.manager, pool.indices, index);
     place::block_after(image, container, pool.ring, at)
 }
 
@@ -68,11 +64,7 @@ fn bitmap_byte(image: &[u8], container: Container, pool: PoolPlace, index: u64) 
         return 0;
     }
     let block = bitmap_block(image, container, pool, index / size);
-    let at = (index % size) as usize;
-    if block.len() <= at {
-        return 0;
-    }
-    block[at]
+    block.get((index % size) as usize).copied().unwrap_or(0)
 }
 
 // Byte index of a bitmap of which a part is at hand: its bytes from number first on.
@@ -87,12 +79,8 @@ fn byte_near(
     requires { PartAt image container pool part first }
     ensures { result ≡ slice_index (bitmap_on image container pool) index }
 {
-    if first <= index {
-        let at = index - first;
-        if at < part.len() as u64 {
-            let k = at as usize;
-            return part[k];
-        }
+    if first <= index && index - first < part.len() as u64 {
+        return part[(index - first) as usize];
     }
     bitmap_byte(image, container, pool, index)
 }
@@ -113,8 +101,8 @@ fn bit_near(
     fields::bit_of(b, index)
 }
 
-// Whether a block is in the pool, and its bit is 1, of a bitmap of which a part is at hand: for blocks whose bits are mostly in one block of
-// it, which is then found once.
+// Whether a block is in the pool, and its bit is 1, of a bitmap of which a part is at hand: for blocks whose bits are mostly in one
+// block of it, which is then found once.
 pub fn marked_near(
     image: &[u8],
     container: Container,
@@ -127,19 +115,14 @@ pub fn marked_near(
     ensures { result ≡ pool_marked (pool_on image container pool) block }
 {
     let i = pool_index(block, pool.base);
-    if i < pool.blocks {
-        bit_near(image, container, pool, part, first, i)
-    } else {
-        false
-    }
+    i < pool.blocks && bit_near(image, container, pool, part, first, i)
 }
 
 // Whether a block is in the pool, and its bit is 1.
 pub fn pool_marked(image: &[u8], container: Container, pool: PoolPlace, block: u64) -> bool
     ensures { result ≡ pool_marked (pool_on image container pool) block }
 {
-    let none = fields::part_of(image, image.len(), 0);
-    marked_near(image, container, pool, none, 0, block)
+    marked_near(image, container, pool, &[], 0, block)
 }
 
 // Where the manager's fields put the pool.
@@ -156,34 +139,33 @@ pub fn pool_place(image: &[u8], container: Container, manager: Manager) -> PoolP
     }
 }
 
-// Whether block index of the bitmap may be read.
-fn bitmap_there(image: &[u8], container: Container, pool: PoolPlace, index: u64) -> Presence
+// Block index of the bitmap, if it may be read.
+fn bitmap_there(
+    image: &[u8],
+    container: Container,
+    pool: PoolPlace,
+    index: u64,
+) -> Result<&[u8], Refusal>
     ensures { BitmapSeen (blocks_in image.entry container) container pool index result }
 {
-    let manager = pool.manager;
-    let k = lists::index_at(image, container, manager, pool.indices, index);
-    if u64::MAX - pool.ring < k {
-        return Presence::Refused(Refusal::Overflow);
-    }
-    if container.count <= pool.ring + k {
-        return Presence::Refused(Refusal::PastContainer);
-    }
-    Presence::There
+    let at = lists::index_at(image, container, pool.manager, pool.indices, index);
+    let address = blocks::add(pool.ring, at)?;
+    blocks::raw_block(image, container, Address(address))
 }
 
 // Whether the bitmap's first blocks may be read: no byte of them is looked at.
-fn bitmaps_there(image: &[u8], container: Container, pool: PoolPlace, bitmaps: u64) -> Presence
+fn bitmaps_there(
+    image: &[u8],
+    container: Container,
+    pool: PoolPlace,
+    bitmaps: u64,
+) -> Result<(), Refusal>
     ensures { BitmapsSeen (blocks_in image.entry container) container pool bitmaps result }
 {
-    let mut i = 0;
-    while i < bitmaps {
-        let seen = bitmap_there(image, container, pool, i);
-        match seen {
-            Presence::Refused(r) => return Presence::Refused(r),
-            Presence::There => i += 1,
-        }
+    for i in 0..bitmaps {
+        bitmap_there(image, container, pool, i)?;
     }
-    Presence::There
+    Ok(())
 }
 
 // Whether so many blocks of bitmap have a bit for each of a pool's blocks: by division, since the product may pass 2^64.
@@ -191,76 +173,53 @@ fn has_bits(size: u64, bitmaps: u64, blocks: u64) -> bool
     requires { 0 < size }
     ensures { result ≡ nat_le blocks (bitmaps * size * 8) }
 {
-    if blocks == 0 {
-        return true;
-    }
-    (blocks - 1) / BYTE_BITS / size < bitmaps
+    blocks.div_ceil(BYTE_BITS).div_ceil(size) <= bitmaps
 }
 
 // The pool, once the list of its bitmap's blocks is known to be whole.
-fn load_at(image: &[u8], container: Container, pool: PoolPlace) -> Presence
+fn load_at(image: &[u8], container: Container, pool: PoolPlace) -> Result<(), Refusal>
     requires { Holds image.now container }
     ensures { LoadsPool image container pool result (pool_from container pool.ring pool.base pool.blocks (indices_on image container pool)) }
 {
-    let seen = bitmaps_there(image, container, pool, pool.bitmaps);
-    match seen {
-        Presence::Refused(r) => Presence::Refused(r),
-        Presence::There => {
-            if has_bits(container.size, pool.bitmaps, pool.blocks) {
-                Presence::There
-            } else {
-                Presence::Refused(Refusal::BadBitmap)
-            }
-        }
+    bitmaps_there(image, container, pool, pool.bitmaps)?;
+    if has_bits(container.size, pool.bitmaps, pool.blocks) {
+        Ok(())
+    } else {
+        Err(Refusal::BadBitmap)
     }
 }
 
 // Whether the pool at its manager's place may be used.
-pub fn load(image: &[u8], container: Container, manager: Manager) -> Presence
+pub fn load(image: &[u8], container: Container, manager: Manager) -> Result<(), Refusal>
     requires { Holds image.now container }
     ensures { LoadsPool image container (place_on image container manager) result (load_pool container (manager_on image container manager)) }
 {
-    let seen = lists::pool_indices(image, container, manager);
-    match seen {
-        Presence::Refused(r) => Presence::Refused(r),
-        Presence::There => load_at(image, container, pool_place(image, container, manager)),
-    }
+    lists::pool_indices(image, container, manager)?;
+    load_at(image, container, pool_place(image, container, manager))
 }
 
 // Whether the pool's block index is used; a block number past 2^64 is past every count.
 fn used_in(map: &[u8], container: Container, base: u64, index: u64) -> bool
     ensures { result ≡ used_at container (bytes map) (base + index) }
 {
-    if u64::MAX - base < index {
-        return false;
-    }
-    block_map::used_at(map, container, base + index)
+    base.checked_add(index)
+        .is_some_and(|block| block_map::used_at(map, container, block))
 }
 
 // 1 where the pool's block index is marked, as its bit says, but unused.
 fn unused_one(map: &[u8], container: Container, base: u64, index: u64, marked: bool) -> u64
     ensures { (result ≡ unused_one container (bytes map) marked (base + index)) × (result ≤ 1) }
 {
-    if !marked {
-        return 0;
-    }
-    if used_in(map, container, base, index) {
-        return 0;
-    }
-    1
+    u64::from(marked && !used_in(map, container, base, index))
 }
 
 // The first of the pool's blocks after index whose bit is in another byte than index's, or their end.
 fn byte_end(index: u64, blocks: u64) -> u64
-    requires { index < blocks }
     ensures { result ≡ byte_end index blocks }
 {
-    let left = BYTE_BITS - index % BYTE_BITS;
-    if blocks - index < left {
-        blocks
-    } else {
-        index + left
-    }
+    (index / BYTE_BITS * BYTE_BITS)
+        .saturating_add(BYTE_BITS)
+        .min(blocks)
 }
 
 // How many of the pool's blocks from first to end, whose bits are in one byte, are marked but unused; after before. A part of the
@@ -284,10 +243,8 @@ fn unused_byte(
         return before;
     }
     let mut found = before;
-    let mut i = first;
-    while i < end {
+    for i in first..end {
         found += unused_one(map, container, pool.base, i, fields::bit_of(b, i));
-        i += 1;
     }
     found
 }
@@ -322,14 +279,9 @@ fn unused_piece(
 
 // A piece after the pool's block index, or their end.
 fn piece_end(index: u64, blocks: u64) -> u64
-    requires { index < blocks }
     ensures { result ≡ piece_end index blocks }
 {
-    if blocks - index < PIECE {
-        blocks
-    } else {
-        index + PIECE
-    }
+    index.saturating_add(PIECE).min(blocks)
 }
 
 // How many pool blocks are marked but unused.
@@ -337,11 +289,8 @@ pub fn unused(image: &[u8], map: &[u8], container: Container, pool: PoolPlace) -
     ensures { result ≡ unused_from container (pool_on image container pool) (bytes map) pool.blocks pool.base 0 }
 {
     let mut n = 0;
-    let mut i = 0;
-    while i < pool.blocks {
-        let end = piece_end(i, pool.blocks);
-        n = unused_piece(image, map, container, pool, i, end, n);
-        i = end;
+    for i in (0..pool.blocks).step_by(PIECE as usize) {
+        n = unused_piece(image, map, container, pool, i, piece_end(i, pool.blocks), n);
     }
     n
 }

@@ -1,3 +1,2 @@
 -- Free queues.
 pub mod Queue
-pub mod clauses

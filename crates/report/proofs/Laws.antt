@@ -1,16 +1,17 @@
 -- Laws of logs.
+use Rattle.std.specs.Prelude.{Err, Ok, Result}
 use Rattle.std.proofs.Common.{◌≡◌, ℕ, zero, suc, ◌+◌, ◌-◌, ◌^◌, ◌<◌, ◌≤◌, min, List, [], ◌∷◌, length, get_or, drop, set, sym, refl, ap, ◌∙◌, zero-le, add-one, arith, length-set, drop_of_length-le, drop-cons, le-ltb, lt-ltb}
 use lib.Seq.{set_out}
-use Rattle.blocks.specs.Reads.{done, run, ◌>>=◌}
+use native.Mathlib.Decide.{dec_le}
+use Rattle.blocks.specs.Reads.{given, refused, run}
 use Rattle.blocks.specs.Blocks.{sum}
-use Rattle.blocks.proofs.Laws.{run_bind, sum_fits, sum_passes}
+use Rattle.blocks.proofs.Laws.{sum_fits, sum_passes}
 use Rattle.blocks.specs.declared.Refusal.TheVariants.{Overflow}
 use Rattle.block_map.specs.BlockMap.{update}
 use Rattle.block_map.proofs.Laws.{update_set}
-use Rattle.report.specs.Report.{logged, sum_of, overlap_figure, count_claimant, note, add_overlap}
-use Rattle.report.specs.clauses.Steps.{Logged}
-use Rattle.report.specs.declared.Ending.TheVariants.{Done, Refused}
-use Rattle.report.specs.declared.Overlap.{Overlap}
+use Rattle.report.specs.Report.{logged, sum_of, overlap_figure, overlap_total, count_claimant, note}
+use Rattle.blocks.specs.clauses.Answers.{outcome}
+use Rattle.blocks.specs.declared.Refusal.{Refusal}
 use Rattle.report.specs.declared.OverlapLog.{OverlapLog}
 
 -- where x stands in a log with room, and in a full one
@@ -22,15 +23,6 @@ module _ {A : Type 0} (total : ℕ) (x : A) (first : List A) where
   pub note_full : logged ≤ total → note total x first ≡ first
   unfolding note
   note_full h = simp (le-ltb _ _ h)
-
--- one more counted, and refused where the count can't grow
-module _ {L : Type 0} (total : ℕ) (log : L) (next : ℕ → L) where
-  pub count_more : total < 2 ^ 64 - 1 → log ≡ next (total + 1) → (before : L) → Logged Done before log (sum total 1 >>= λ n. done (next n))
-  unfolding run
-  count_more h e before = record { outcome = λ f. rw (run_bind f (sum total 1), sum_fits f total 1 (omega arith), e) refl; kept = λ r d. cc }
-
-  pub count_refused : 2 ^ 64 - 1 ≤ total → Logged (Refused Overflow) log log (sum total 1 >>= λ n. done (next n))
-  count_refused h = record { outcome = λ f. rw (run_bind f (sum total 1), sum_passes f total 1 (omega arith)) refl; kept = λ r d. refl }
 
 -- numbers added up, one after the other, as far as 64 bits go
 module _ (ns : List ℕ) (i total : ℕ) where
@@ -77,14 +69,27 @@ counted_most kind claimants = most (kind - 1) claimants
     most (suc place) (n ∷ ns) = omega (arith, most place ns)
 
 -- one overlap more, where their total can grow and where it can't
-module _ (o : Overlap) (l : OverlapLog) (n : ℕ) (e : n ≡ overlap_figure l) where
-  pub overlap_more : (claimants : List ℕ) (first : List Overlap) → (n ≡ 2 ^ 64 - 1 → ⊥) → claimants ≡ count_claimant o.claimant l.claimants → first ≡ note n o l.first
-      → Logged Done l (record { claimants = claimants; first = first }) (add_overlap o l)
-  unfolding add_overlap
-  overlap_more claimants first room p q =
-      let exact : n ≡ sum_of l.claimants = omega arith in
-      count_more _ _ _ (omega arith) (rw (p, q, exact) refl) l
+-- a count of overlaps that has room for one more is the sum itself, and one that hasn't is refused like the sum
+module _ (l : OverlapLog) (n : ℕ) (e : n ≡ overlap_figure l) (r : Result ℕ Refusal) (f : ℕ → List ℕ) (h : outcome r ≡ run f (sum n 1)) where
+  overlap_full : 2 ^ 64 - 1 ≤ n → run f (sum n 1) ≡ refused Overflow
+  overlap_full k = sum_passes f n 1 (omega arith)
 
-  pub overlap_refused : n ≡ 2 ^ 64 - 1 → Logged (Refused Overflow) l l (add_overlap o l)
-  unfolding add_overlap
-  overlap_refused full = count_refused _ _ _ (omega arith)
+  pub overlap_room : (t : ℕ) → r ≡ Ok t → n < 2 ^ 64 - 1
+  overlap_room t q = go (dec_le (2 ^ 64 - 1) n)
+    where
+      go : Dec (2 ^ 64 - 1 ≤ n) → n < 2 ^ 64 - 1
+      go (yes k) = let never : given t ≡ refused Overflow = sym (ap outcome q) ∙ (h ∙ overlap_full k) in let z : ◌≡◌ {A = ℕ} 0 1 = cc in absurd (omega arith)
+      go (no k) = omega arith
+
+  pub overlap_exact : (t : ℕ) → r ≡ Ok t → n ≡ sum_of l.claimants
+  overlap_exact t q = omega (arith, overlap_room t q, e)
+
+  pub overlap_given : (t : ℕ) → r ≡ Ok t → run f (sum (overlap_total l) 1) ≡ given t
+  overlap_given t q = ap (λ m. run f (sum m 1)) (sym (overlap_exact t q)) ∙ (sym h ∙ ap outcome q)
+
+  pub overlap_refused : (x : Refusal) → r ≡ Err x → run f (sum (overlap_total l) 1) ≡ refused x
+  overlap_refused x q = go (dec_le (2 ^ 64 - 1) n)
+    where
+      go : Dec (2 ^ 64 - 1 ≤ n) → run f (sum (overlap_total l) 1) ≡ refused x
+      go (yes k) = sum_passes f (overlap_total l) 1 (omega arith) ∙ (sym (overlap_full k) ∙ (sym h ∙ ap outcome q))
+      go (no k) = let never : refused x ≡ given (n + 1) = sym (ap outcome q) ∙ (h ∙ sum_fits f n 1 (omega arith)) in let z : ◌≡◌ {A = ℕ} 0 1 = cc in absurd (omega arith)

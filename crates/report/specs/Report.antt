@@ -1,4 +1,5 @@
 -- What a pass answers: logs of ten places, the report, and a refusal's.
+use Rattle.std.specs.Prelude.{Err, Ok, Result}
 use Rattle.std.specs.Prelude.{ℕ, ◌+◌, ◌-◌, ◌^◌, min, List, [], ◌∷◌, replicate, nat_lt, slice_set}
 use Rattle.fields.specs.Choice.{pick}
 use Rattle.blocks.specs.Reads.{Reads, done, ◌>>=◌}
@@ -12,8 +13,6 @@ use Rattle.report.specs.declared.Overlap.{Overlap}
 use Rattle.report.specs.declared.OverlapLog.{OverlapLog}
 use Rattle.report.specs.declared.Report.{Report}
 use Rattle.report.specs.declared.Answer.{Answer}
-use Rattle.report.specs.declared.Ending.{Ending}
-use Rattle.report.specs.declared.Ending.TheVariants.{Done, Refused}
 
 -- "the first ten"
 abbrev pub logged : ℕ
@@ -83,12 +82,12 @@ zero_report =
 
 -- "A refusal gives its number and an all-zero report."
 unfoldable pub refusal : Refusal → Answer
-refusal r = record { ending = Refused r; report = zero_report }
+refusal r = record { ending = Err r; report = zero_report }
 
 unfoldable pub reported : Report → Answer
-reported r = record { ending = Done; report = r }
+reported r = record { ending = (Ok tt); report = r }
 
 -- the paper's number of an ending: 0 where there is a report
-unfoldable pub ending_number : Ending → ℕ
-ending_number Done = 0
-ending_number (Refused r) = number_of r
+unfoldable pub ending_number : Result (Unit {0}) Refusal → ℕ
+ending_number (Ok tt) = 0
+ending_number (Err r) = number_of r

@@ -3,7 +3,7 @@ ghost use Rattle.std.specs.Prelude.{◌≡◌};
 ghost use Rattle.report.specs.Report.{zero_report, refusal as refusal_answer, reported as reported_answer};
 
 use crate::logs::{no_overlaps, no_problems};
-use crate::{Answer, Ending, KINDS, Lost, Report};
+use crate::{Answer, KINDS, Lost, Report};
 use blocks::Refusal;
 
 pub fn zero_report() -> Report
@@ -34,13 +34,13 @@ pub fn refusal(why: Refusal) -> Answer
     ensures { result ≡ refusal_answer why }
 {
     let report = zero_report();
-    let ending = Ending::Refused(why);
+    let ending = Err(why);
     Answer { ending, report }
 }
 
 pub fn reported(report: Report) -> Answer
     ensures { result ≡ reported_answer report }
 {
-    let ending = Ending::Done;
+    let ending = Ok(());
     Answer { ending, report }
 }

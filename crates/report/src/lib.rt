@@ -5,7 +5,6 @@ use blocks::Refusal;
 
 pub mod answers;
 pub mod logs;
-pub mod steps;
 
 // How many problems and overlaps a report names.
 pub const LOGGED: usize = 10;
@@ -48,38 +47,11 @@ pub struct Lost {
     pub first: u64,
 }
 
-// How a pass ended, or a step of it that doesn't move on.
-#[derive(Clone, Copy)]
-pub enum Ending {
-    Done,
-    Refused(Refusal),
-}
-
 // Where a step along blocks, bits or entries has come to: the next of them, and how many are left.
 #[derive(Clone, Copy)]
 pub struct Cursor {
     pub next: u64,
     pub left: u64,
-}
-
-// A step that moves on, or why it doesn't. What it logs stands beside it, since logs hold arrays.
-#[derive(Clone, Copy)]
-pub enum Step {
-    On(Cursor),
-    Refused(Refusal),
-}
-
-// A log after a step; where the step was refused, the log as it was.
-#[derive(Clone, Copy)]
-pub struct LoggedProblem {
-    pub ending: Ending,
-    pub log: ProblemLog,
-}
-
-#[derive(Clone, Copy)]
-pub struct LoggedOverlap {
-    pub ending: Ending,
-    pub log: OverlapLog,
 }
 
 // What a pass finds. Unfilled places are 0.
@@ -102,6 +74,6 @@ pub struct Report {
 // How a pass ended, and its report: all zero where it was refused.
 #[derive(Clone, Copy)]
 pub struct Answer {
-    pub ending: Ending,
+    pub ending: Result<(), Refusal>,
     pub report: Report,
 }

@@ -2,7 +2,7 @@
 use mathlib.Core.Path.{◌≡◌, refl}
 use mathlib.Core.Bool.{Bool, false, not}
 use mathlib.Core.List.{List, [], ◌∷◌, ◌++◌}
-use mathlib.Core.Option.{Option, some, none}
+use Rattle.std.specs.Prelude.{Option, Some, None}
 use Prim.Native.Nat.{ℕ, ◌-◌}
 use lib.Dec.{T, eqb}
 use lib.ListN.{length, get_or, replicate}
@@ -138,10 +138,10 @@ table =
     ∷ eqb (claims_second 3) 0
     ∷ eqb (figure (λ (s : Marked OverlapLog). owner_of (get_or s.map 4 0)) claimed) 3
     -- "Ghost: 1 block. Count 0: none.", in either queue
-    ∷ eqb (claims_of none) 1
-    ∷ eqb (claims_of (some (zeros 8 []))) 0
-    ∷ eqb (visits_of none) 1
-    ∷ eqb (visits_of (some (zeros 8 []))) 0
+    ∷ eqb (claims_of None) 1
+    ∷ eqb (claims_of (Some (zeros 8 []))) 0
+    ∷ eqb (visits_of None) 1
+    ∷ eqb (visits_of (Some (zeros 8 []))) 0
     -- "Size 6,144 gives 3. 4,095 bytes give 1."
     ∷ eqb (check_number (block (row 32 4 0x4253584e ∷ row 36 4 6144 ∷ [])) []) 3
     ∷ eqb (check_number (zeros 4095 []) []) 1

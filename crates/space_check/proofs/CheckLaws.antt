@@ -1,4 +1,7 @@
 -- The stages of the code are the definition's pass; and which refusals leave the block map.
+use Rattle.std.specs.Prelude.{Err, None, Ok, Option, Some}
+use Rattle.std.specs.Prelude.{Result as Answered}
+use Rattle.checkpoint.specs.declared.Mapping.{Mapping}
 use mathlib.Core.Path.{◌≡◌, refl, sym, ap, ◌∙◌}
 use mathlib.Core.Bool.{Bool, true, false, not, ◌||◌}
 use mathlib.Core.List.{List}
@@ -25,12 +28,9 @@ use Rattle.checkpoint.specs.Checkpoint.{Taken, take_superblock, admit}
 use Rattle.checkpoint.specs.Geometry.{least_size, geometry}
 use Rattle.checkpoint.specs.clauses.Answers.{taken_in}
 use Rattle.checkpoint.specs.clauses.InPlace.{mapped_in, loads}
-use Rattle.checkpoint.specs.declared.Best.{Best}
-use Rattle.checkpoint.specs.declared.Best.TheVariants.{Superblock, Nothing}
 use Rattle.checkpoint.specs.declared.Candidate.{Candidate}
 use Rattle.checkpoint.specs.declared.Checkpoint.{Checkpoint}
 use Rattle.checkpoint.specs.declared.Geometry.{Geometry}
-use Rattle.checkpoint.specs.declared.Mapped.{Mapped}
 use Rattle.checkpoint.proofs.OpeningLaws.{geometry_given}
 use Rattle.checkpoint.proofs.ChainLaws.{lookup_in_place}
 use Rattle.checkpoint.proofs.SearchLaws.{try_left, next, take_tries, try_end, try_none, try_here, try_next, taken_given}
@@ -39,10 +39,8 @@ use Rattle.block_map.proofs.Laws.{kept_cleared}
 use Rattle.report.specs.Report.{refusal, reported}
 use Rattle.report.specs.clauses.Steps.{Stepped}
 use Rattle.report.specs.declared.Answer.{Answer}
-use Rattle.report.specs.declared.Ending.{Ending}
-use Rattle.report.specs.declared.Ending.TheVariants.{Done, Refused}
 use Rattle.report.specs.declared.Report.{Report}
-use Rattle.report.proofs.StepLaws.{stepped_done, stepped_refused}
+use Rattle.report.proofs.StepLaws.{stepped_ok, stepped_err}
 use Rattle.space_check.specs.Check.{Result, last_untouched, body, rest, pass, settle, check_in, check}
 use Rattle.space_check.specs.clauses.Stages.{body_of, settle_late, result_of, Ready}
 use Rattle.space_check.proofs.Late.{body_touches}
@@ -62,13 +60,13 @@ module _ (f : ℕ → List ℕ) (g : Geometry) (a : Address) (c : Container) (ta
   mapped_same : (id : ObjectId) → mapped_in f k id ≡ lookup id t.map
   mapped_same id = let is = taken_given f g t taken in lookup_in_place f g (f a.0) is.loaded (omega (arith, is.inside)) id
 
-  abbrev mapped : ObjectId → Mapped
+  abbrev mapped : ObjectId → Option Mapping
   mapped id = lookup id t.map
 
   -- where the body refuses, the map is zeroed
   pub late : (map : List ℕ) → settle c.count map (run f (body c (f a.0) mapped (cleared c.count map))) ≡ settle_late c.count map (run f (body_of k f (cleared c.count map)))
   unfolding settle
-  late map = go (run f (body c (f a.0) mapped (cleared c.count map))) refl ∙ ap (λ (m : ObjectId → Mapped). settle_late c.count map (run f (body c (f a.0) m (cleared c.count map)))) (sym (λ i id. mapped_same id i))
+  late map = go (run f (body c (f a.0) mapped (cleared c.count map))) refl ∙ ap (λ (m : ObjectId → Option Mapping). settle_late c.count map (run f (body c (f a.0) m (cleared c.count map)))) (sym (λ i id. mapped_same id i))
     where
       go : (o : Outcome (Marked Report)) → run f (body c (f a.0) mapped (cleared c.count map)) ≡ o → settle c.count map o ≡ settle_late c.count map o
       go (given s) e = refl
@@ -78,13 +76,13 @@ module _ (f : ℕ → List ℕ) (g : Geometry) (a : Address) (c : Container) (ta
 abbrev IsEarly : Refusal → Type 0
 IsEarly r = leb (number_of r) last_untouched ≡ true
 
-tried_refused : (f : ℕ → List ℕ) (g : Geometry) (left : ℕ) (last : Best) (r : Refusal) → try_left f g left last ≡ refused r → IsEarly r
+tried_refused : (f : ℕ → List ℕ) (g : Geometry) (left : ℕ) (last : Option Candidate) (r : Refusal) → try_left f g left last ≡ refused r → IsEarly r
 tried_refused f g zero last r e = let same : NoCheckpoint ≡ r = same_refusal _ _ (sym (try_end f g 0 last refl) ∙ e) in rw (← same) refl
-tried_refused f g (suc left) last r e = go (next f g last) (λ d q. tried_refused f g left (Superblock d) r q) refl
+tried_refused f g (suc left) last r e = go (next f g last) (λ d q. tried_refused f g left (Some d) r q) refl
   where
-    go : (b : Best) → ((d : Candidate) → try_left f g left (Superblock d) ≡ refused r → IsEarly r) → next f g last ≡ b → IsEarly r
-    go Nothing again b = let same : NoCheckpoint ≡ r = same_refusal _ _ (sym (try_none f g (suc left) last b) ∙ e) in rw (← same) refl
-    go (Superblock d) again b = on (loads (run f (chain g (f (g.base + d.at))))) refl
+    go : (b : Option Candidate) → ((d : Candidate) → try_left f g left (Some d) ≡ refused r → IsEarly r) → next f g last ≡ b → IsEarly r
+    go None again b = let same : NoCheckpoint ≡ r = same_refusal _ _ (sym (try_none f g (suc left) last b) ∙ e) in rw (← same) refl
+    go (Some d) again b = on (loads (run f (chain g (f (g.base + d.at))))) refl
       where
         more : suc left ≡ 0 → ⊥
         more z = omega arith
@@ -94,7 +92,7 @@ tried_refused f g (suc left) last r e = go (next f g last) (λ d q. tried_refuse
         on false l = let less : suc left - 1 ≡ left = omega arith in again d (rw less at (sym (try_next f g (suc left) last d more b _ refl l) ∙ e))
 
 pub take_early : (f : ℕ → List ℕ) (g : Geometry) (r : Refusal) → run f (take_superblock g) ≡ refused r → IsEarly r
-take_early f g r e = tried_refused f g g.ring Nothing r (sym (take_tries f g) ∙ e)
+take_early f g r e = tried_refused f g g.ring None r (sym (take_tries f g) ∙ e)
 
 pub admit_early : (f : ℕ → List ℕ) (g : Geometry) (taken : Taken) (r : Refusal) → run f (admit g taken) ≡ refused r → IsEarly r
 unfolding run need ◌>>=◌ admit
@@ -142,22 +140,22 @@ unfolding cleared
 cleared_again count map = rw (drop_at (replicate count 0) (drop count map) count (length-replicate count 0)) refl
 
 -- the body, from a map that was cleared, as the code answers it
-module _ (f : ℕ → List ℕ) (check : Checkpoint) (map first second : List ℕ) (room : check.container.count ≤ length map) (is : first ≡ cleared (min check.container.count (length map)) map) (ending : Ending) (report : Report) (h : Stepped f check.container.count ending first second report (body_of check f first)) where
+module _ (f : ℕ → List ℕ) (check : Checkpoint) (map first second : List ℕ) (room : check.container.count ≤ length map) (is : first ≡ cleared (min check.container.count (length map)) map) (passed : Answered Report Refusal) (h : Stepped f check.container.count passed first second (body_of check f first)) where
   first_is : first ≡ cleared check.container.count map
   first_is = let all : min check.container.count (length map) ≡ check.container.count = omega arith in is ∙ rw all refl
 
-  pub late_refused : (r : Refusal) → ending ≡ Refused r → (a : Answer) → a ≡ refusal r → (last : List ℕ) → last ≡ cleared (min check.container.count (length second)) second
+  pub late_refused : (r : Refusal) → passed ≡ Err r → (a : Answer) → a ≡ refusal r → (last : List ℕ) → last ≡ cleared (min check.container.count (length second)) second
       → result_of a last ≡ settle_late check.container.count map (run f (body_of check f (cleared check.container.count map)))
   late_refused r e a q last l =
       let all : min check.container.count (length second) ≡ check.container.count = omega (arith, h.kept.long, cleared_long) in
       let zero : last ≡ cleared check.container.count map = l ∙ rw all refl ∙ kept_cleared _ _ _ h.kept ∙ ap (cleared check.container.count) first_is ∙ cleared_again _ map in
-      rw (q, zero, rw first_is at (stepped_refused h r e)) refl
+      rw (q, zero, rw first_is at (stepped_err h r e)) refl
     where
       cleared_long : length first ≡ length map
       cleared_long = rw first_is (length_cleared check.container.count map room)
 
-  pub late_done : ending ≡ Done → (a : Answer) → a ≡ reported report → result_of a second ≡ settle_late check.container.count map (run f (body_of check f (cleared check.container.count map)))
-  late_done e a q = rw (q, rw first_is at (stepped_done h e)) refl
+  pub late_done : (report : Report) → passed ≡ Ok report → (a : Answer) → a ≡ reported report → result_of a second ≡ settle_late check.container.count map (run f (body_of check f (cleared check.container.count map)))
+  late_done report e a q = rw (q, rw first_is at (stepped_ok h report e)) refl
 
 -- block 0's part
 module _ (image map : List ℕ) where

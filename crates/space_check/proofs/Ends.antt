@@ -1,9 +1,10 @@
 -- What holds of every report of a pass, whatever is read; of a refusal nothing is asked. Steps without state need no law. A fact about
 -- the claims' state has to be kept by owning a block and by logging an overlap, and by nothing else.
+use Rattle.std.specs.Prelude.{None, Option, Some}
+use Rattle.checkpoint.specs.declared.Mapping.{Mapping}
 use mathlib.Core.Path.{◌≡◌, refl}
 use mathlib.Core.Bool.{Bool, true, false, ◌||◌}
 use mathlib.Core.List.{List, [], ◌∷◌}
-use mathlib.Core.Option.{Option, some, none}
 use Prim.Native.Nat.{ℕ, zero, suc, ◌+◌, ◌-◌, ◌^◌, ◌≤◌, ◌<◌}
 use native.Mathlib.Omega.{arith}
 use lib.Dec.{ltb, eqb}
@@ -23,8 +24,6 @@ use Rattle.nodes.specs.Walk.{Walked, each, children_of, walk_below, walk}
 use Rattle.nodes.specs.declared.Description.{Description}
 use Rattle.checkpoint.specs.Checkpoint.{Taken, admit}
 use Rattle.checkpoint.specs.declared.Geometry.{Geometry}
-use Rattle.checkpoint.specs.declared.Mapped.{Mapped}
-use Rattle.checkpoint.specs.declared.Mapped.TheVariants.{To, Nowhere}
 use Rattle.checkpoint.proofs.OpeningLaws.{geometry_given}
 use Rattle.block_map.specs.BlockMap.{Marked, update, owner_of, owned_by}
 use Rattle.report.specs.Report.{kinds, no_overlaps, add_overlap, zero_report, refusal, reported}
@@ -141,11 +140,11 @@ module _ {S : Type 0} (I : S → Type 0) (visit : S → Address → Reads S) (c 
 
 -- free queues
 
-module _ {S : Type 0} (I : S → Type 0) (c : Container) (mapped : ObjectId → Mapped) (visit : S → Entry → Reads S) (v : (s : S) (e : Entry) → I s → Ends I (visit s e)) where
-  ends_queue_from : (m : Mapped) (s : S) → I s → Ends I (queue_from c mapped visit m s)
+module _ {S : Type 0} (I : S → Type 0) (c : Container) (mapped : ObjectId → Option Mapping) (visit : S → Entry → Reads S) (v : (s : S) (e : Entry) → I s → Ends I (visit s e)) where
+  ends_queue_from : (m : Option Mapping) (s : S) → I s → Ends I (queue_from c mapped visit m s)
   unfolding queue_from scan_queue
-  ends_queue_from Nowhere s h = ends_done I s h
-  ends_queue_from (To m) s h = ends_after _ _ _ (λ b. ends_after _ _ _ (λ d. ends_scan I visit d _ v b s h))
+  ends_queue_from None s h = ends_done I s h
+  ends_queue_from (Some m) s h = ends_after _ _ _ (λ b. ends_after _ _ _ (λ d. ends_scan I visit d _ v b s h))
 
   pub ends_queue : (root : ObjectId) (s : S) → I s → Ends I (queue c mapped visit root s)
   unfolding queue
@@ -187,8 +186,8 @@ module _ (I : Marked OverlapLog → Type 0) (owns : (kind a : ℕ) (s : Marked O
 
   ends_claim_mapped : (s : Marked OverlapLog) (key : List ℕ) (v : Option (List ℕ)) → I s → Ends I (claim_mapped c s key v)
   unfolding claim_mapped
-  ends_claim_mapped s key none h = ends_done I s h
-  ends_claim_mapped s key (some v) h = ends_after _ _ _ (λ a. ends_choose _ (is_deleted v) _ _ (ends_done I s h) (ends_claim _ (omega arith) _ _ s h))
+  ends_claim_mapped s key None h = ends_done I s h
+  ends_claim_mapped s key (Some v) h = ends_after _ _ _ (λ a. ends_choose _ (is_deleted v) _ _ (ends_done I s h) (ends_claim _ (omega arith) _ _ s h))
 
   ends_claim_mapping : (s : Marked OverlapLog) (e : Entry) → I s → Ends I (claim_mapping c s e)
   unfolding claim_mapping
@@ -223,7 +222,7 @@ module _ (I : Marked OverlapLog → Type 0) (owns : (kind a : ℕ) (s : Marked O
   unfolding claim_volumes
   ends_claim_volumes d b sb s h = ends_after _ _ _ (λ vs. ends_claim_each vs s h)
 
-  module _ (sb : List ℕ) (mapped : ObjectId → Mapped) where
+  module _ (sb : List ℕ) (mapped : ObjectId → Option Mapping) where
     ends_claim_areas : (sm : List ℕ) (s : Marked OverlapLog) → I s → Ends I (claim_areas c sb mapped sm s)
     unfolding claim_areas
     ends_claim_areas sm s h =
@@ -251,7 +250,7 @@ module _ (I : Marked OverlapLog → Type 0) (owns : (kind a : ℕ) (s : Marked O
 
 -- the whole: what holds of an all-zero report and of every report of a pass's body holds of every answer of the check
 
-module _ (P : Report → Type 0) (none : P zero_report) (bodies : (c : Container) (sb : List ℕ) (mapped : ObjectId → Mapped) (map : List ℕ) → c.count ≤ 2 ^ 32 - 1 → Ends (λ s. P s.figures) (body c sb mapped map)) where
+module _ (P : Report → Type 0) (none : P zero_report) (bodies : (c : Container) (sb : List ℕ) (mapped : ObjectId → Option Mapping) (map : List ℕ) → c.count ≤ 2 ^ 32 - 1 → Ends (λ s. P s.figures) (body c sb mapped map)) where
   abbrev Holds : Marked Report → Type 0
   Holds s = P s.figures
 

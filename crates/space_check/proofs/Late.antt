@@ -1,16 +1,14 @@
 -- The body of a pass gives late refusals alone: those numbered 12 and above, which zero the block map.
+use Rattle.std.specs.Prelude.{None, Option, Some}
 use mathlib.Core.Path.{◌≡◌, refl, subst}
 use mathlib.Core.Bool.{Bool, true, false, ◌||◌}
 use mathlib.Core.List.{List, [], ◌∷◌}
-use mathlib.Core.Option.{Option, some, none}
 use Prim.Native.Nat.{ℕ, zero, suc, ◌+◌, ◌<◌}
 use lib.Dec.{leb, ltb, eqb}
 use lib.ListN.{get_or}
 use borrow.Author.Tests.{leb-false}
 use Rattle.fields.specs.Choice.{choose}
 use Rattle.fields.specs.Fields.{bit_at}
-use Rattle.fields.specs.declared.Field.{Field}
-use Rattle.fields.specs.declared.Field.TheVariants.{Value, Absent}
 use Rattle.blocks.specs.Reads.{Reads, done, refuse, read, Outcome, given, refused, run, ◌>>=◌, need}
 use Rattle.blocks.specs.Blocks.{read_raw, read_object, present, field, part, sum}
 use Rattle.blocks.specs.Refusals.{number_of}
@@ -25,8 +23,6 @@ use Rattle.nodes.specs.Walk.{Walked, children_from, next_node, each, walk_below,
 use Rattle.nodes.specs.declared.Description.{Description}
 use Rattle.nodes.specs.declared.Slot.{Slot}
 use Rattle.checkpoint.specs.declared.Mapping.{Mapping}
-use Rattle.checkpoint.specs.declared.Mapped.{Mapped}
-use Rattle.checkpoint.specs.declared.Mapped.TheVariants.{To, Nowhere}
 use Rattle.manager.specs.Manager.{manager_from, manager_at, manager_by, manager, list_from, accepted}
 use Rattle.manager.specs.Chunks.{chunks_from}
 use Rattle.manager.specs.declared.Chunk.{Chunk}
@@ -114,10 +110,10 @@ late_read_object : (c : Container) (a : Address) → Late (read_object c a)
 unfolding read_object
 late_read_object c a = late_test _ _ _ refl (late_bind _ _ (late_read _) (λ b. late_test _ _ _ refl (late_done _)))
 
-late_present : (x : Field) → Late (present x)
+late_present : (x : Option ℕ) → Late (present x)
 unfolding present
-late_present (Value v) = late_done _
-late_present Absent = late_refuse _ _ refl
+late_present (Some v) = late_done _
+late_present None = late_refuse _ _ refl
 
 late_field : (w : ℕ) (b : List ℕ) (off : ℕ) → Late (field w b off)
 unfolding field
@@ -167,8 +163,8 @@ late_entry d b i = late_bind _ _ (late_slot d b i) (λ s. late_bind _ _ (late_pa
 
 late_pointer : (v : Option (List ℕ)) → Late (pointer v)
 unfolding pointer
-late_pointer none = late_refuse _ _ refl
-late_pointer (some v) = late_field _ _ _
+late_pointer None = late_refuse _ _ refl
+late_pointer (Some v) = late_field _ _ _
 
 -- the object map
 
@@ -277,12 +273,12 @@ late_manager_at : (c : Container) (sb : List ℕ) (m : Mapping) → Late (manage
 unfolding manager_at
 late_manager_at c sb m = late_bind _ _ (late_manager_from c sb _ _ 0 []) (λ bs. late_accepted _)
 
-late_manager_by : (c : Container) (sb : List ℕ) (m : Mapped) → Late (manager_by c sb m)
+late_manager_by : (c : Container) (sb : List ℕ) (m : Option Mapping) → Late (manager_by c sb m)
 unfolding manager_by
-late_manager_by c sb Nowhere = late_refuse _ _ refl
-late_manager_by c sb (To m) = late_manager_at c sb m
+late_manager_by c sb None = late_refuse _ _ refl
+late_manager_by c sb (Some m) = late_manager_at c sb m
 
-late_manager : (c : Container) (sb : List ℕ) (mapped : ObjectId → Mapped) → Late (manager c sb mapped)
+late_manager : (c : Container) (sb : List ℕ) (mapped : ObjectId → Option Mapping) → Late (manager c sb mapped)
 unfolding manager
 late_manager c sb mapped = late_manager_by c _ _
 
@@ -325,27 +321,27 @@ late_add_overlap o l = late_bind _ _ (late_sum _ _) (λ n. late_done _)
 
 late_run_count : (v : Option (List ℕ)) → Late (run_count v)
 unfolding run_count
-late_run_count none = late_done _
-late_run_count (some v) = late_field _ _ _
+late_run_count None = late_done _
+late_run_count (Some v) = late_field _ _ _
 
 late_run_of : (e : Entry) → Late (run_of e)
 unfolding run_of
 late_run_of e = late_bind _ _ (late_field _ _ _) (λ a. late_bind _ _ (late_run_count e.value) (λ n. late_done _))
 
-late_node_by : (c : Container) (m : Mapped) → Late (node_by c m)
+late_node_by : (c : Container) (m : Option Mapping) → Late (node_by c m)
 unfolding node_by
-late_node_by c Nowhere = late_refuse _ _ refl
-late_node_by c (To m) = late_read_node c _
+late_node_by c None = late_refuse _ _ refl
+late_node_by c (Some m) = late_read_node c _
 
-module _ {S : Type 0} (c : Container) (mapped : ObjectId → Mapped) (visit : S → Entry → Reads S) (v : (s : S) (e : Entry) → Late (visit s e)) where
+module _ {S : Type 0} (c : Container) (mapped : ObjectId → Option Mapping) (visit : S → Entry → Reads S) (v : (s : S) (e : Entry) → Late (visit s e)) where
   late_scan_queue : (b : List ℕ) (s : S) → Late (scan_queue c mapped visit b s)
   unfolding scan_queue
   late_scan_queue b s = late_bind _ _ (late_describe b) (λ d. late_scan visit d _ v (λ id. late_node_by c _) b s)
 
-  late_queue_from : (m : Mapped) (s : S) → Late (queue_from c mapped visit m s)
+  late_queue_from : (m : Option Mapping) (s : S) → Late (queue_from c mapped visit m s)
   unfolding queue_from
-  late_queue_from Nowhere s = late_done _
-  late_queue_from (To m) s = late_bind _ _ (late_read_node c _) (λ b. late_scan_queue b s)
+  late_queue_from None s = late_done _
+  late_queue_from (Some m) s = late_bind _ _ (late_read_node c _) (λ b. late_scan_queue b s)
 
   late_queue : (root : ObjectId) (s : S) → Late (queue c mapped visit root s)
   unfolding queue
@@ -510,8 +506,8 @@ late_mapped_address key v = late_bind _ _ (late_field _ _ _) (λ x. late_bind _ 
 
 late_claim_mapped : (c : Container) (s : Marked OverlapLog) (key : List ℕ) (v : Option (List ℕ)) → Late (claim_mapped c s key v)
 unfolding claim_mapped
-late_claim_mapped c s key none = late_done _
-late_claim_mapped c s key (some v) = late_bind _ _ (late_mapped_address key v) (λ a. late_choose (is_deleted v) _ _ (late_done _) (late_claim c _ _ _ s))
+late_claim_mapped c s key None = late_done _
+late_claim_mapped c s key (Some v) = late_bind _ _ (late_mapped_address key v) (λ a. late_choose (is_deleted v) _ _ (late_done _) (late_claim c _ _ _ s))
 
 late_claim_mapping : (c : Container) (s : Marked OverlapLog) (e : Entry) → Late (claim_mapping c s e)
 unfolding claim_mapping
@@ -567,13 +563,13 @@ late_live_address v = late_bind _ _ (late_field _ _ _) (λ a. late_test _ _ _ re
 
 late_mapped_by : (id : ObjectId) (key : List ℕ) (v : Option (List ℕ)) → Late (mapped_by id key v)
 unfolding mapped_by
-late_mapped_by id key none = late_refuse _ _ refl
-late_mapped_by id key (some v) = late_bind _ _ (late_field _ _ _) (λ i. late_test _ _ _ refl (late_live_address v))
+late_mapped_by id key None = late_refuse _ _ refl
+late_mapped_by id key (Some v) = late_bind _ _ (late_field _ _ _) (λ i. late_test _ _ _ refl (late_live_address v))
 
 late_volume_address : (id : ObjectId) (e : Option Entry) → Late (volume_address id e)
 unfolding volume_address
-late_volume_address id none = late_refuse _ _ refl
-late_volume_address id (some e) = late_mapped_by id _ _
+late_volume_address id None = late_refuse _ _ refl
+late_volume_address id (Some e) = late_mapped_by id _ _
 
 late_read_volume : (c : Container) (a : Address) → Late (read_volume c a)
 unfolding read_volume
@@ -622,7 +618,7 @@ module _ (c : Container) where
 
 -- the whole
 
-module _ (c : Container) (sb : List ℕ) (mapped : ObjectId → Mapped) where
+module _ (c : Container) (sb : List ℕ) (mapped : ObjectId → Option Mapping) where
   late_load_parts : Late (load_parts c sb mapped)
   unfolding load_parts manager_part pool_part
   late_load_parts = late_bind _ _ (late_load_object_map c _) (λ root. late_bind _ _ (late_manager c sb mapped) (λ sm. late_bind _ _ (late_load_pool c sm) (λ p. late_done _)))

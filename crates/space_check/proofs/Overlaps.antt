@@ -1,4 +1,6 @@
 -- The overlaps in every report of the check: a count for each kind, and their sum below 2^64, since it is the sum that 21 guards.
+use Rattle.std.specs.Prelude.{Option}
+use Rattle.checkpoint.specs.declared.Mapping.{Mapping}
 use mathlib.Core.Path.{◌≡◌, refl, ◌∙◌}
 use mathlib.Core.List.{List}
 use Prim.Native.Nat.{ℕ, ◌^◌, ◌<◌}
@@ -7,7 +9,6 @@ use lib.Dec.{lit<}
 use lib.ListN.{length}
 use Rattle.blocks.specs.declared.Container.{Container}
 use Rattle.blocks.specs.declared.ObjectId.{ObjectId}
-use Rattle.checkpoint.specs.declared.Mapped.{Mapped}
 use Rattle.report.specs.Report.{kinds, no_overlaps, sum_of, overlap_total, overlap_figure, add_overlap, zero_report}
 use Rattle.report.specs.declared.Overlap.{Overlap}
 use Rattle.report.specs.declared.OverlapLog.{OverlapLog}
@@ -33,7 +34,7 @@ more_summed o l h =
       fits = omega (arith, made, counted_most o.claimant l.claimants);
     }))
 
-body_summed : (c : Container) (sb : List ℕ) (mapped : ObjectId → Mapped) (map : List ℕ) → Ends (λ s. Summed s.figures.overlaps) (body c sb mapped map)
+body_summed : (c : Container) (sb : List ℕ) (mapped : ObjectId → Option Mapping) (map : List ℕ) → Ends (λ s. Summed s.figures.overlaps) (body c sb mapped map)
 unfolding body audit_and_claim claim_and_report report_of
 body_summed c sb mapped map =
     ends_after _ _ _ (λ x.

@@ -1,4 +1,6 @@
 -- Laws of the pass's stages.
+use Rattle.std.specs.Prelude.{Ok, Option, Result}
+use Rattle.checkpoint.specs.declared.Mapping.{Mapping}
 use mathlib.Core.Path.{◌≡◌, refl, sym, ap, ◌∙◌}
 use mathlib.Core.List.{List}
 use Prim.Native.Nat.{ℕ, zero, suc, ◌+◌, ◌-◌, ◌%◌, ◌<◌}
@@ -15,15 +17,11 @@ use Rattle.nodes.specs.Walk.{walk}
 use Rattle.nodes.specs.declared.Description.{Description}
 use Rattle.nodes.proofs.Laws.{node_given}
 use Rattle.checkpoint.specs.Superblock.{manager_id, object_map_address}
-use Rattle.checkpoint.specs.declared.Mapped.{Mapped}
 use Rattle.manager.specs.Manager.{manager_by, manager}
 use Rattle.block_map.specs.BlockMap.{Marked}
-use Rattle.report.specs.clauses.Steps.{outcome_of, Stepped}
-use Rattle.report.specs.declared.Ending.{Ending}
-use Rattle.report.specs.declared.Ending.TheVariants.{Done}
+use Rattle.report.specs.clauses.Steps.{Stepped}
 use Rattle.report.specs.declared.OverlapLog.{OverlapLog}
-use Rattle.report.specs.declared.Report.{Report}
-use Rattle.report.proofs.StepLaws.{stepped_done}
+use Rattle.report.proofs.StepLaws.{stepped_ok}
 use Rattle.pool.specs.Pool.{Pool, load_pool}
 use Rattle.claims.specs.Claims.{object_map_node, claim, claim_node}
 use Rattle.trees.proofs.ScanLaws.{bind_cong}
@@ -31,7 +29,6 @@ use Rattle.volumes.specs.Volumes.{claim_volumes}
 use Rattle.space_check.specs.Check.{Parts, pool_part, manager_part, load_parts, claim_areas, claim_mappings_and_volumes, claim_objects}
 use Rattle.space_check.specs.clauses.Stages.{superblock_area, pool_area, area_of, areas_from}
 use Rattle.space_check.specs.declared.Area.{Area}
-use Rattle.space_check.specs.declared.Passed.{Passed}
 
 -- the areas from a kind on
 module _ (c : Container) (sb sm : List ℕ) (kind : ℕ) (s : Marked OverlapLog) where
@@ -46,35 +43,15 @@ module _ (c : Container) (sb sm : List ℕ) (kind : ℕ) (s : Marked OverlapLog)
       let less : suc left - 1 ≡ left = omega arith in
       let same : kind % 16 ≡ kind = omega arith in rw (less, same, is, q) refl
 
-module _ (f : ℕ → List ℕ) (c : Container) (sb : List ℕ) (mapped : ObjectId → Mapped) where
-  -- what is loaded, one part after another
-  module _ (root : Address) (sm : List ℕ) where
-    pub pool_refused : (r : Refusal) → run f (load_pool c sm) ≡ refused r → run f (pool_part c sb mapped root sm) ≡ refused r
-    unfolding pool_part
-    pool_refused r e = then_refused f _ _ r e
+-- a is the object map's address
+pub map_same : (f : ℕ → List ℕ) (c : Container) (sb : List ℕ) (a : Address) → a ≡ object_map_address sb → run f (load_object_map c a) ≡ run f (load_object_map c (object_map_address sb))
+map_same f c sb a is = rw is refl
 
-    pub pool_given : (p : Pool) → run f (load_pool c sm) ≡ given p → run f (pool_part c sb mapped root sm) ≡ given (record { root = root; sm = sm; pool = p })
-    unfolding run pool_part
-    pool_given p e = then_given f _ _ p e
-
+module _ (f : ℕ → List ℕ) (c : Container) (sb : List ℕ) (mapped : ObjectId → Option Mapping) where
   -- read are the superblock's bytes, m what the map has for the manager's id
-  module _ (root : Address) (read : List ℕ) (is : read ≡ sb) (m : Mapped) (at : m ≡ mapped (manager_id read)) where
-    pub manager_refused : (r : Refusal) → run f (manager_by c read m) ≡ refused r → run f (manager_part c sb mapped root) ≡ refused r
-    unfolding manager_part manager
-    manager_refused r e = then_refused f _ _ r (rw (at, is) at e)
-
-    pub manager_given : (sm : List ℕ) → run f (manager_by c read m) ≡ given sm → run f (manager_part c sb mapped root) ≡ run f (pool_part c sb mapped root sm)
-    unfolding manager_part manager
-    manager_given sm e = then_given f _ _ sm (rw (at, is) at e)
-
-  module _ (a : Address) (is : a ≡ object_map_address sb) where
-    pub map_refused : (r : Refusal) → run f (load_object_map c a) ≡ refused r → run f (load_parts c sb mapped) ≡ refused r
-    unfolding load_parts
-    map_refused r e = then_refused f _ _ r (rw is at e)
-
-    pub map_given : (root : Address) → run f (load_object_map c a) ≡ given root → run f (load_parts c sb mapped) ≡ run f (manager_part c sb mapped root)
-    unfolding load_parts
-    map_given root e = then_given f _ _ root (rw is at e)
+  pub manager_same : (read : List ℕ) → read ≡ sb → (m : Option Mapping) → m ≡ mapped (manager_id read) → run f (manager_by c read m) ≡ run f (manager c sb mapped)
+  unfolding manager
+  manager_same read is m at = rw (at, is) refl
 
   -- the root of the object map's tree was read
   pub root_read : (x : Parts) → run f (load_parts c sb mapped) ≡ given x → run f (read_node c x.root) ≡ given (f x.root.0)
@@ -118,11 +95,7 @@ pub volumes_of : (c : Container) (d : Description) (b : List ℕ) (s : Marked Ov
 volumes_of c d b s n sb e = rw e refl
 
 -- a step that was done, and what is made of what it left
-pub made : {F R : Type 0} {f : ℕ → List ℕ} {count : ℕ} {ending : Ending} {before after : List ℕ} {figures : F} {p : Reads (Marked F)} (h : Stepped f count ending before after figures p) (make : Marked F → R) (x : R)
-    → ending ≡ Done → x ≡ make (record { map = after; figures = figures }) → Stepped f count ending before after x (p >>= λ o. done (record { map = o.map; figures = make o }))
+pub made : {F R : Type 0} {f : ℕ → List ℕ} {count : ℕ} {r : Result F Refusal} {before after : List ℕ} {p : Reads (Marked F)} (h : Stepped f count r before after p) (make : Marked F → R) (t : F) (x : R)
+    → r ≡ Ok t → x ≡ make (record { map = after; figures = t }) → Stepped f count (Ok x) before after (p >>= λ o. done (record { map = o.map; figures = make o }))
 unfolding run
-made {F} {R} {f} {count} {ending} {before} {after} {figures} {p} h make x d e = record { goes = ap (λ (s : Ending). outcome_of {A = Marked R} s (record { map = after; figures = x })) d ∙ rw e (sym (then_given f p _ _ (stepped_done h d))); kept = h.kept }
-
--- a step as the code answers it
-pub passed_is : {f : ℕ → List ℕ} {count : ℕ} {before after : List ℕ} {p : Reads (Marked Report)} (r : Passed) (ending : Ending) (report : Report) → r ≡ record { ending = ending; report = report } → Stepped f count ending before after report p → Stepped f count r.ending before after r.report p
-passed_is r ending report q h = rw q h
+made {F} {R} {f} {count} {r} {before} {after} {p} h make t x e is = record { goes = rw is (sym (then_given f p _ _ (stepped_ok h t e))); kept = h.kept }

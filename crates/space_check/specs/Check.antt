@@ -1,4 +1,6 @@
 -- The whole pass. A reader may start here and go down.
+use Rattle.std.specs.Prelude.{Option}
+use Rattle.checkpoint.specs.declared.Mapping.{Mapping}
 use Rattle.std.specs.Prelude.{List, ℕ, leb, length, take}
 use Rattle.fields.specs.Choice.{pick}
 use Rattle.blocks.specs.Reads.{Reads, Outcome, given, refused, run, no_blocks, done, ◌>>=◌}
@@ -16,7 +18,6 @@ use Rattle.checkpoint.specs.Geometry.{geometry, least_size}
 use Rattle.checkpoint.specs.Map.{lookup}
 use Rattle.checkpoint.specs.Checkpoint.{Taken, take_superblock, admit}
 use Rattle.checkpoint.specs.declared.Geometry.{Geometry}
-use Rattle.checkpoint.specs.declared.Mapped.{Mapped}
 use Rattle.manager.specs.Manager.{manager, device_free, pool_base, pool_blocks, pool_ring_base, pool_ring_blocks, pool_queue, main_queue}
 use Rattle.block_map.specs.BlockMap.{Marked, is_used, cleared, count_in}
 use Rattle.report.specs.Report.{no_overlaps, overlap_total, kinds, refusal, reported}
@@ -59,7 +60,7 @@ pub record Parts : Type 0 where
   pub pool : Pool
 
 -- sb: the bytes of the taken superblock; mapped: what its checkpoint map has for an id
-module _ (c : Container) (sb : List ℕ) (mapped : ObjectId → Mapped) where
+module _ (c : Container) (sb : List ℕ) (mapped : ObjectId → Option Mapping) where
   -- "Then the object map loads, then the space manager": and then the manager's pool
   unfoldable pub pool_part : Address → List ℕ → Reads Parts
   pool_part root sm = load_pool c sm >>= λ p. done (record { root = root; sm = sm; pool = p })

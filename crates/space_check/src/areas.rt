@@ -6,11 +6,10 @@ ghost use Rattle.trees.specs.clauses.Answers.{ClaimsAs};
 ghost use Rattle.space_check.specs.clauses.Stages.{superblock_area, pool_area, area_of, areas_of};
 
 use crate::Area;
-use blocks::Container;
+use blocks::{Container, Refusal};
 use checkpoint::{Checkpoint, superblock};
-use claims::Claimed;
 use manager::{Manager, offsets, place};
-use report::{Ending, OverlapLog};
+use report::OverlapLog;
 
 // The descriptor area and the data area.
 fn superblock_area(sb: &[u8], kind: u8) -> Area
@@ -67,26 +66,15 @@ pub(crate) fn claim_areas(
     checkpoint: Checkpoint,
     manager: Manager,
     log: OverlapLog,
-) -> Claimed
+) -> Result<OverlapLog, Refusal>
     ensures { ClaimsAs image map checkpoint.container log result (areas_of checkpoint manager) }
 {
     let container = checkpoint.container;
-    let at = checkpoint.superblock;
-    let sb = blocks::block(image, container.size, at);
-    let mut found = log;
-    let mut kind = claims::CONTAINER_SUPERBLOCK;
-    while kind <= claims::OBJECT_MAP {
+    let sb = blocks::block(image, container.size, checkpoint.superblock);
+    let mut log = log;
+    for kind in claims::CONTAINER_SUPERBLOCK..=claims::OBJECT_MAP {
         let area = area_of(image, container, sb, manager, kind);
-        let claimed = claims::claim(map, container, kind, area.start, area.len, found);
-        let ending = claimed.ending;
-        match ending {
-            Ending::Refused(_) => return claimed,
-            Ending::Done => {
-                found = claimed.log;
-                kind += 1;
-            }
-        }
+        log = claims::claim(map, container, kind, area.start, area.len, log)?;
     }
-    let ending = Ending::Done;
-    Claimed { ending, log: found }
+    Ok(log)
 }

@@ -7,15 +7,14 @@ ghost use Rattle.space_check.specs.clauses.Stages.{blocks_of, audit_of, mappings
 
 use crate::PartsPlace;
 use crate::areas::claim_areas;
-use audit::{Audit, Audited, problems};
-use blocks::{Address, ObjectId};
+use audit::{Audit, problems};
+use blocks::{Address, ObjectId, Refusal};
 use checkpoint::Checkpoint;
-use claims::Claimed;
 use manager::offsets::{MAIN_QUEUE, POOL_QUEUE};
 use manager::place;
-use nodes::{Description, DescriptionAnswer};
+use nodes::Description;
 use pool::PoolPlace;
-use report::{Ending, OverlapLog};
+use report::OverlapLog;
 
 // The main device in the order of its list, then the pool queue.
 fn audit_blocks(
@@ -24,22 +23,14 @@ fn audit_blocks(
     checkpoint: Checkpoint,
     parts: PartsPlace,
     audit: Audit,
-) -> Audited
+) -> Result<Audit, Refusal>
     ensures { AuditsAs image map checkpoint.container audit result (blocks_of checkpoint parts) }
 {
     let container = checkpoint.container;
     let pool = parts.pool;
-    let audited = audit::device::audit_device(image, map, container, pool, audit);
-    let ending = audited.ending;
-    match ending {
-        Ending::Refused(_) => audited,
-        Ending::Done => {
-            let audit = audited.audit;
-            let m = pool.manager;
-            let root = ObjectId(place::u64_of(image, container, m, POOL_QUEUE));
-            trees::queues::audit_queue(image, map, checkpoint, pool, root, audit)
-        }
-    }
+    let audit = audit::device::audit_device(image, map, container, pool, audit)?;
+    let root = ObjectId(place::u64_of(image, container, pool.manager, POOL_QUEUE));
+    trees::queues::audit_queue(image, map, checkpoint, pool, root, audit)
 }
 
 // The free ring of the pool's bitmap, then the blocks of the device and of the queue.
@@ -48,21 +39,14 @@ pub(crate) fn audit_all(
     map: &mut [u8],
     checkpoint: Checkpoint,
     parts: PartsPlace,
-) -> Audited
+) -> Result<Audit, Refusal>
     ensures { AuditsOn image map checkpoint.container result (audit_of checkpoint parts) }
 {
     let container = checkpoint.container;
-    let pool = parts.pool;
-    let m = pool.manager;
-    let audited = free_ring::audits::audit_ring(image, container, m, problems::nothing_audited());
-    let ending = audited.ending;
-    match ending {
-        Ending::Refused(_) => audited,
-        Ending::Done => {
-            let audit = audited.audit;
-            audit_blocks(image, map, checkpoint, parts, audit)
-        }
-    }
+    let manager = parts.pool.manager;
+    let none = problems::nothing_audited();
+    let audit = free_ring::audits::audit_ring(image, container, manager, none)?;
+    audit_blocks(image, map, checkpoint, parts, audit)
 }
 
 // Claim 8, for which no node is read again, and then the volumes' own trees.
@@ -74,29 +58,14 @@ fn claim_mappings_and_volumes(
     description: Description,
     root: Address,
     log: OverlapLog,
-) -> Claimed
+) -> Result<OverlapLog, Refusal>
     requires { TreeReadAt image checkpoint description root }
     ensures { ClaimsAs image map checkpoint.container log result (mappings_of checkpoint description root) }
 {
-    let claimed = trees::queues::claim_mappings(
-        image,
-        map,
-        checkpoint,
-        pool,
-        description,
-        root,
-        log,
-    );
-    let ending = claimed.ending;
-    match ending {
-        Ending::Refused(_) => claimed,
-        Ending::Done => {
-            let log = claimed.log;
-            let container = checkpoint.container;
-            let sb = blocks::block(image, container.size, checkpoint.superblock);
-            volumes::own_trees::claim_volumes(image, map, container, description, root, sb, log)
-        }
-    }
+    let log = trees::queues::claim_mappings(image, map, checkpoint, pool, description, root, log)?;
+    let container = checkpoint.container;
+    let sb = blocks::block(image, container.size, checkpoint.superblock);
+    volumes::own_trees::claim_volumes(image, map, container, description, root, sb, log)
 }
 
 // Claims 7 and 8: the nodes of the object map's tree, then its mappings; and the own trees of the volumes, 6, 7, 10 and 11.
@@ -107,30 +76,16 @@ fn claim_objects(
     pool: PoolPlace,
     root: Address,
     log: OverlapLog,
-) -> Claimed
+) -> Result<OverlapLog, Refusal>
     requires { NodeRead (blocks_in image checkpoint.container) checkpoint.container root.0 }
     ensures { ClaimsAs image map checkpoint.container log result (objects_of checkpoint root) }
 {
     let container = checkpoint.container;
-    let described = nodes::node::describe(blocks::block(image, container.size, root));
-    match described {
-        DescriptionAnswer::Refused(r) => {
-            let ending = Ending::Refused(r);
-            Claimed { ending, log }
-        }
-        DescriptionAnswer::Given(d) => {
-            let kind = claims::OBJECT_MAP_NODE;
-            let walked = trees::walks::walk(image, map, container, kind, d, root, log);
-            let ending = walked.ending;
-            match ending {
-                Ending::Refused(_) => walked,
-                Ending::Done => {
-                    let log = walked.log;
-                    claim_mappings_and_volumes(image, map, checkpoint, pool, d, root, log)
-                }
-            }
-        }
-    }
+    let node = blocks::block(image, container.size, root);
+    let description = nodes::node::describe(node)?;
+    let kind = claims::OBJECT_MAP_NODE;
+    let log = trees::walks::walk(image, map, container, kind, description, root, log)?;
+    claim_mappings_and_volumes(image, map, checkpoint, pool, description, root, log)
 }
 
 // Claims 7 to 9: the object map's nodes and mappings, the volumes, then the main queue.
@@ -140,24 +95,15 @@ fn claim_trees(
     checkpoint: Checkpoint,
     parts: PartsPlace,
     log: OverlapLog,
-) -> Claimed
+) -> Result<OverlapLog, Refusal>
     requires { RootRead image checkpoint parts }
     ensures { ClaimsAs image map checkpoint.container log result (trees_of checkpoint parts) }
 {
     let container = checkpoint.container;
     let pool = parts.pool;
-    let root = parts.root;
-    let claimed = claim_objects(image, map, checkpoint, pool, root, log);
-    let ending = claimed.ending;
-    match ending {
-        Ending::Refused(_) => claimed,
-        Ending::Done => {
-            let log = claimed.log;
-            let m = pool.manager;
-            let queue = ObjectId(place::u64_of(image, container, m, MAIN_QUEUE));
-            trees::queues::claim_queue(image, map, checkpoint, pool, queue, log)
-        }
-    }
+    let log = claim_objects(image, map, checkpoint, pool, parts.root, log)?;
+    let queue = ObjectId(place::u64_of(image, container, pool.manager, MAIN_QUEUE));
+    trees::queues::claim_queue(image, map, checkpoint, pool, queue, log)
 }
 
 // All claims.
@@ -166,19 +112,11 @@ pub(crate) fn claim_all(
     map: &mut [u8],
     checkpoint: Checkpoint,
     parts: PartsPlace,
-) -> Claimed
+) -> Result<OverlapLog, Refusal>
     requires { RootRead image checkpoint parts }
     ensures { ClaimsOn image map checkpoint.container result (claims_of checkpoint parts) }
 {
-    let pool = parts.pool;
-    let m = pool.manager;
-    let claimed = claim_areas(image, map, checkpoint, m, report::logs::no_overlaps());
-    let ending = claimed.ending;
-    match ending {
-        Ending::Refused(_) => claimed,
-        Ending::Done => {
-            let log = claimed.log;
-            claim_trees(image, map, checkpoint, parts, log)
-        }
-    }
+    let none = report::logs::no_overlaps();
+    let log = claim_areas(image, map, checkpoint, parts.pool.manager, none)?;
+    claim_trees(image, map, checkpoint, parts, log)
 }

@@ -5,9 +5,9 @@ ghost use Rattle.space_check.specs.Check.{pass, check as check_of};
 ghost use Rattle.space_check.specs.clauses.Stages.{SettlesLate, Settles, rest_of, result_of, Ready, IsTakenAt};
 
 use crate::reports::body;
-use blocks::{Address, AddressAnswer};
-use checkpoint::{Checkpoint, ContainerAnswer, Geometry, GeometryAnswer};
-use report::{Answer, Ending};
+use blocks::Address;
+use checkpoint::{Checkpoint, Geometry};
+use report::Answer;
 
 // What follows once the superblock is taken: from here on a refusal zeroes each block's byte.
 fn check_body(image: &[u8], map: &mut [u8], checkpoint: Checkpoint) -> Answer
@@ -16,17 +16,12 @@ fn check_body(image: &[u8], map: &mut [u8], checkpoint: Checkpoint) -> Answer
 {
     let container = checkpoint.container;
     block_map::clear(map, container.count);
-    let passed = body(image, map, checkpoint);
-    let ending = passed.ending;
-    match ending {
-        Ending::Refused(r) => {
+    match body(image, map, checkpoint) {
+        Err(why) => {
             block_map::clear(map, container.count);
-            report::answers::refusal(r)
+            report::answers::refusal(why)
         }
-        Ending::Done => {
-            let report = passed.report;
-            report::answers::reported(report)
-        }
+        Ok(report) => report::answers::reported(report),
     }
 }
 
@@ -36,10 +31,9 @@ fn check_taken(image: &[u8], map: &mut [u8], geometry: Geometry, superblock: Add
     ensures { Settles image map geometry result (rest_of geometry superblock) }
 {
     let sb = blocks::block(image, geometry.size, superblock);
-    let admitted = checkpoint::choice::admit(geometry, sb);
-    match admitted {
-        ContainerAnswer::Refused(r) => report::answers::refusal(r),
-        ContainerAnswer::Given(container) => {
+    match checkpoint::choice::admit(geometry, sb) {
+        Err(why) => report::answers::refusal(why),
+        Ok(container) => {
             let checkpoint = Checkpoint {
                 container,
                 geometry,
@@ -55,10 +49,9 @@ fn check_in(image: &[u8], map: &mut [u8], geometry: Geometry) -> Answer
     requires { Ready image.now map.old geometry }
     ensures { Settles image map geometry result (λ f. pass geometry) }
 {
-    let taken = checkpoint::choice::take_superblock(image, geometry);
-    match taken {
-        AddressAnswer::Refused(r) => report::answers::refusal(r),
-        AddressAnswer::Given(a) => check_taken(image, map, geometry, a),
+    match checkpoint::choice::take_superblock(image, geometry) {
+        Err(why) => report::answers::refusal(why),
+        Ok(superblock) => check_taken(image, map, geometry, superblock),
     }
 }
 
@@ -66,9 +59,8 @@ fn check_in(image: &[u8], map: &mut [u8], geometry: Geometry) -> Answer
 pub fn check(image: &[u8], map: &mut [u8]) -> Answer
     ensures { result_of result map.new ≡ check_of (bytes image) (bytes_lent map) }
 {
-    let opened = checkpoint::block_zero::geometry(image, map.len());
-    match opened {
-        GeometryAnswer::Refused(r) => report::answers::refusal(r),
-        GeometryAnswer::Given(g) => check_in(image, map, g),
+    match checkpoint::block_zero::geometry(image, map.len()) {
+        Err(why) => report::answers::refusal(why),
+        Ok(geometry) => check_in(image, map, geometry),
     }
 }

@@ -1,20 +1,19 @@
 // The report, made in one place from what a pass counted and from the block map that it left.
 ghost use Rattle.std.specs.Prelude.{◌≡◌};
 ghost use Rattle.blocks.specs.clauses.Images.{bytes, Holds};
-ghost use Rattle.report.specs.Report.{zero_report};
 ghost use Rattle.space_check.specs.clauses.Stages.{report_on, reports_of, pass_of, body_of, Passes, RootRead};
 
+use crate::PartsPlace;
 use crate::audits::{audit_all, claim_all};
 use crate::load::load;
-use crate::{PartsAnswer, PartsPlace, Passed};
 use audit::Audit;
-use blocks::Container;
+use blocks::{Container, Refusal};
 use checkpoint::Checkpoint;
 use manager::offsets::DEVICE_FREE;
 use manager::place;
 use pool::PoolPlace;
 use report::logs::overlap_total;
-use report::{Ending, OverlapLog, Report};
+use report::{OverlapLog, Report};
 
 fn report_of(
     image: &[u8],
@@ -47,14 +46,6 @@ fn report_of(
     }
 }
 
-// A pass that was refused has no report.
-fn unreported(ending: Ending) -> Passed
-    ensures { result ≡ record { ending = ending; report = zero_report } }
-{
-    let report = report::answers::zero_report();
-    Passed { ending, report }
-}
-
 // The claims, once the audit is made, and the report.
 fn claim_and_report(
     image: &[u8],
@@ -62,22 +53,13 @@ fn claim_and_report(
     checkpoint: Checkpoint,
     parts: PartsPlace,
     audit: Audit,
-) -> Passed
+) -> Result<Report, Refusal>
     requires { RootRead image checkpoint parts }
     ensures { Passes image map checkpoint result (reports_of checkpoint parts audit) }
 {
-    let claimed = claim_all(image, map, checkpoint, parts);
-    let ending = claimed.ending;
-    match ending {
-        Ending::Refused(_) => unreported(ending),
-        Ending::Done => {
-            let container = checkpoint.container;
-            let pool = parts.pool;
-            let log = claimed.log;
-            let report = report_of(image, map, container, pool, audit, log);
-            Passed { ending, report }
-        }
-    }
+    let log = claim_all(image, map, checkpoint, parts)?;
+    let container = checkpoint.container;
+    Ok(report_of(image, map, container, parts.pool, audit, log))
 }
 
 // The audit, the claims and the report, once all is loaded.
@@ -86,29 +68,19 @@ fn audit_and_claim(
     map: &mut [u8],
     checkpoint: Checkpoint,
     parts: PartsPlace,
-) -> Passed
+) -> Result<Report, Refusal>
     requires { RootRead image checkpoint parts }
     ensures { Passes image map checkpoint result (pass_of checkpoint parts) }
 {
-    let audited = audit_all(image, map, checkpoint, parts);
-    let ending = audited.ending;
-    match ending {
-        Ending::Refused(_) => unreported(ending),
-        Ending::Done => {
-            let audit = audited.audit;
-            claim_and_report(image, map, checkpoint, parts, audit)
-        }
-    }
+    let audit = audit_all(image, map, checkpoint, parts)?;
+    claim_and_report(image, map, checkpoint, parts, audit)
 }
 
 // What follows the choice of the superblock, from a map that was cleared.
-pub(crate) fn body(image: &[u8], map: &mut [u8], checkpoint: Checkpoint) -> Passed
+pub(crate) fn body(image: &[u8], map: &mut [u8], checkpoint: Checkpoint) -> Result<Report, Refusal>
     requires { Holds image.now checkpoint.container }
     ensures { Passes image map checkpoint result (body_of checkpoint) }
 {
-    let loaded = load(image, checkpoint);
-    match loaded {
-        PartsAnswer::Refused(r) => unreported(Ending::Refused(r)),
-        PartsAnswer::Given(parts) => audit_and_claim(image, map, checkpoint, parts),
-    }
+    let parts = load(image, checkpoint)?;
+    audit_and_claim(image, map, checkpoint, parts)
 }

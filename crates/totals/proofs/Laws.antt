@@ -3,13 +3,15 @@ use mathlib.Core.Bool.{Bool, true, false, not, ◌&&◌}
 use mathlib.Core.List.{List, [], ◌∷◌, ◌++◌}
 use mathlib.Core.Path.{◌≡◌, refl, sym, ap, ◌∙◌}
 use Prim.Native.Nat.{ℕ, zero, suc, ◌+◌, ◌-◌, ◌^◌, ◌≤◌, ◌<◌, min}
-use native.Mathlib.Nat.{zero-add, add-zero}
+use native.Mathlib.Nat.{add-zero}
 use native.Mathlib.Numerals.{add-one}
-use native.Mathlib.Decide.{dec_le}
+use native.Mathlib.Decide.{dec_le, ℕ_discrete}
 use native.Mathlib.Omega.{arith}
 use lib.Dec.{eqb}
-use lib.ListN.{length, get_or, set, take, drop, replicate, length-set, length-take, length-drop, take-append-drop, drop_of_length-le}
-use lib.Seq.{drop-cons, drop-drop, set_out}
+use mir.Val.{bool_byte}
+use Rattle.std.specs.List.{list_all}
+use lib.ListN.{length, get_or, set, drop, replicate, length-set, drop_of_length-le}
+use lib.Seq.{drop-cons, set_out}
 use borrow.Author.Tests.{eq-eqb, ne_eqb}
 use Rattle.fields.specs.Choice.{pick, choose}
 use Rattle.block_map.specs.BlockMap.{owner_of, is_marked, is_used, count_in, first_in}
@@ -23,19 +25,14 @@ by_test : (P : Bool → Type 0) → P true → P false → (t : Bool) → P t
 by_test P met unmet true = met
 by_test P met unmet false = unmet
 
--- what is left from at on is a row, and what is left from its end on
-row_of : (cells : List ℕ) (at end : ℕ) → at ≤ end → drop at cells ≡ take (end - at) (drop at cells) ++ drop end cells
-row_of cells at end h = sym (take-append-drop (end - at) (drop at cells)) ∙ rw (drop-drop (end - at) at cells, whole) refl
-  where
-    whole : at + (end - at) ≡ end
-    whole = omega arith
+-- a test's answer, added
+counted : (met : Bool) (n : ℕ) → n + bool_byte met ≡ pick met (n + 1) n
+counted true n = refl
+counted false n = omega arith
 
-pub length_part : (cells : List ℕ) (at end : ℕ) → at ≤ end → end ≤ length cells → at + length (take (end - at) (drop at cells)) ≡ end
-length_part cells at end h fits = simp (length-take, length-drop) (omega arith)
-
-pub counted_fits : (met : Bool) (n i next : ℕ) → n ≤ i → next ≡ pick met (n + 1) n → next ≤ i + 1
-counted_fits true n i next h e = omega arith
-counted_fits false n i next h e = omega arith
+pub counted_fits : (met : Bool) (n i : ℕ) → n ≤ i → n + bool_byte met ≤ i + 1
+counted_fits true n i h = omega arith
+counted_fits false n i h = omega arith
 
 module _ (test : ℕ → Bool) where
   -- once there is one, the first stays
@@ -89,9 +86,9 @@ module _ (test : ℕ → Bool) where
   count_fits cells xs n e = omega (arith, (count_between xs n).0, (count_between cells 0).1)
 
   -- one byte more
-  pub count_more : (cells : List ℕ) (i n next : ℕ) (met : Bool) → i < length cells → met ≡ test (get_or cells i 0) → next ≡ pick met (n + 1) n → count_in test (drop (i + 1) cells) next ≡ count_in test (drop i cells) n
+  pub count_more : (cells : List ℕ) (i n : ℕ) (met : Bool) → i < length cells → met ≡ test (get_or cells i 0) → count_in test (drop (i + 1) cells) (n + bool_byte met) ≡ count_in test (drop i cells) n
   unfolding count_in
-  count_more cells i n next met h is e = rw (drop-cons cells i 0 h, add-one, e, is) refl
+  count_more cells i n met h is = rw (drop-cons cells i 0 h, add-one, counted met n, is) refl
 
   -- n more and then those of a row, in a sum
   pub count_from : (xs : List ℕ) (n : ℕ) → count_in test xs n ≡ n + count_in test xs 0
@@ -109,10 +106,8 @@ module _ (test : ℕ → Bool) where
   count_append (x ∷ xs) ys n = count_append xs ys (pick (test x) (n + 1) n)
 
   -- one row more, of which m meet the test
-  pub count_row : (cells : List ℕ) (at end n m whole : ℕ) → count_in test (drop at cells) n ≡ whole → m ≡ count_in test (take (end - at) (drop at cells)) 0 → at ≤ end → count_in test (drop end cells) (n + m) ≡ whole
-  count_row cells at end n m whole left e h =
-      let row = take (end - at) (drop at cells) in
-      rw (e, ← count_from row n) (sym (count_append row (drop end cells) n) ∙ ap (λ (l : List ℕ). count_in test l n) (sym (row_of cells at end h)) ∙ left)
+  pub count_row : (left row rest : List ℕ) (n m whole : ℕ) → left ≡ row ++ rest → m ≡ count_in test row 0 → count_in test left n ≡ whole → count_in test rest (n + m) ≡ whole
+  count_row left row rest n m whole cut e all = rw (e, ← count_from row n) (sym (count_append row rest n) ∙ sym (ap (λ (l : List ℕ). count_in test l n) cut) ∙ all)
 
   pub count_zeros : (k n : ℕ) → test 0 ≡ false → count_in test (replicate k 0) n ≡ n
   unfolding count_in
@@ -129,7 +124,7 @@ unfolding lost_after lost_from lost_of
 after_start cells zero k = refl
 after_start cells (suc n) k = rw (along_none (is_lost k) cells 0, after_start cells n (k + 1)) refl
 
-after_none : (i k : ℕ) (lost : List Lost) → lost_after [] i k lost ≡ lost
+pub after_none : (i k : ℕ) (lost : List Lost) → lost_after [] i k lost ≡ lost
 unfolding lost_after lost_along
 after_none i k [] = refl
 after_none i k (l ∷ ls) = ap (λ (rest : List Lost). l ∷ rest) (after_none i (k + 1) ls)
@@ -239,39 +234,28 @@ after_quiet (x ∷ row) i k lost h z =
     after_cons x row i k lost ∙ rw (after_other x i k lost h (omega arith)) (after_quiet row (i + 1) k lost h none.1)
 
 -- one row more: its lost blocks counted
-pub after_row : (cells : List ℕ) (at end k : ℕ) (lost next : List Lost) → at ≤ end → end ≤ length cells → next ≡ lost_after (take (end - at) (drop at cells)) at k lost → lost_after (drop end cells) end k next ≡ lost_after (drop at cells) at k lost
-after_row cells at end k lost next h fits e =
-    let row = take (end - at) (drop at cells) in
-    rw e (sym (ap (λ (l : List ℕ). lost_after l at k lost) (row_of cells at end h) ∙ after_append row (drop end cells) at k lost ∙ rw (length_part cells at end h fits) refl))
+pub after_row : (left row rest : List ℕ) (at k : ℕ) (lost next : List Lost) → left ≡ row ++ rest → next ≡ lost_after row at k lost → lost_after rest (at + length row) k next ≡ lost_after left at k lost
+after_row left row rest at k lost next cut e = rw (e, cut) (sym (after_append row rest at k lost))
 
 -- a row of zeros counts for nothing
 pub zeros_count : (row : List ℕ) → all_zero row ≡ true → record { used = 0; leaked = 0; lost = unowned } ≡ counts_in row
 unfolding is_leaked lost_kind
 zeros_count row z = rw (zero_row row z) (rw (count_zeros is_used (length row) 0 refl, count_zeros is_leaked (length row) 0 refl, greatest_zeros lost_kind (length row) refl) refl)
 
--- the sum of the counts, one kind more: nothing lost, or not 0 any more
+-- the sum of the counts is 0 where each is
 lost_grows : (lost : List Lost) (n : ℕ) → n ≤ lost_in lost n
 unfolding lost_in
 lost_grows [] n = omega arith
 lost_grows (l ∷ ls) n = omega (arith, lost_grows ls (n + l.count))
 
-lost_cons : (l : Lost) (ls : List Lost) → lost_in (l ∷ ls) 0 ≡ lost_in ls l.count
+pub none_counted : (lost : List Lost) → list_all (λ l. eqb l.count 0) lost ≡ eqb (lost_in lost 0) 0
 unfolding lost_in
-lost_cons l ls = ap (lost_in ls) (zero-add l.count)
-
-module _ (lost : List Lost) (i : ℕ) (h : i < length lost) where
-  lost_more : lost_in (drop i lost) 0 ≡ lost_in (drop (i + 1) lost) (get_or lost i no_lost).count
-  lost_more = rw (drop_more lost i no_lost h) (lost_cons _ _)
-
-  pub lost_skip : (get_or lost i no_lost).count ≡ 0 → lost_in (drop (i + 1) lost) 0 ≡ lost_in (drop i lost) 0
-  lost_skip z = sym (rw z at lost_more)
-
-  pub lost_found : ((get_or lost i no_lost).count ≡ 0 → ⊥) → lost_in (drop i lost) 0 ≡ 0 → ⊥
-  lost_found z e = z (omega (arith, lost_more, lost_grows (drop (i + 1) lost) (get_or lost i no_lost).count))
-
-pub lost_done : (lost : List Lost) (i : ℕ) → length lost ≤ i → lost_in (drop i lost) 0 ≡ 0
-unfolding lost_in
-lost_done lost i h = rw (drop_of_length-le lost h) refl
+none_counted [] = refl
+none_counted (l ∷ ls) = go (ℕ_discrete l.count 0) (none_counted ls)
+  where
+    go : Dec (l.count ≡ 0) → list_all (λ l. eqb l.count 0) ls ≡ eqb (lost_in ls 0) 0 → list_all (λ l. eqb l.count 0) (l ∷ ls) ≡ eqb (lost_in ls (0 + l.count)) 0
+    go (yes z) others = rw z others
+    go (no h) others = rw (ne_eqb l.count 0 h) (sym (ne_eqb (lost_in ls (0 + l.count)) 0 (λ e. h (omega (arith, lost_grows ls (0 + l.count))))))
 
 -- the verdict, by whether there is anything wrong
 module _ (lost : List Lost) (overlaps problems : ℕ) where

@@ -1,12 +1,11 @@
 // The figures that are counted on the final block map, and the verdict on them.
 #![tactic(auto)]
 
-ghost use Rattle.std.specs.Prelude.{◌≡◌, not, ◌+◌, ◌-◌, ◌^◌, ◌≤◌, ◌<◌, eqb, length, take};
-ghost use Rattle.fields.specs.Choice.{pick};
+ghost use Rattle.std.specs.Prelude.{◌≡◌, ◌-◌, ◌^◌, ◌<◌, eqb, length, take};
 ghost use Rattle.totals.specs.Totals.{is_leaked, lost_in, verdict_of};
 ghost use Rattle.totals.specs.clauses.Counting.{first_kind, lost_kind, one_more, lost_after, totals_of, counts_in, Room};
 
-use block_map::{greater, is_marked, is_used, is_zero, owner};
+use block_map::{is_marked, is_used, is_zero, owner};
 use fields::part_of;
 use report::{KINDS, Lost};
 
@@ -55,13 +54,6 @@ fn lost_kind(byte: u8) -> u8
     }
 }
 
-fn counted(count: u8, met: bool) -> u8
-    requires { count < 255 }
-    ensures { result ≡ pick met (count + 1) count }
-{
-    if met { count + 1 } else { count }
-}
-
 // With no branch, so that many bytes are counted at once.
 fn counts_in(row: &[u8]) -> Counts
     requires { length row.now < 256 }
@@ -70,11 +62,10 @@ fn counts_in(row: &[u8]) -> Counts
     let mut used: u8 = 0;
     let mut leaked: u8 = 0;
     let mut lost: u8 = UNOWNED;
-    for i in 0..row.len() {
-        let x = row[i];
-        used = counted(used, is_used(x));
-        leaked = counted(leaked, is_leaked(x));
-        lost = greater(lost, lost_kind(x));
+    for byte in row {
+        used += is_used(*byte) as u8;
+        leaked += is_leaked(*byte) as u8;
+        lost = lost.max(lost_kind(*byte));
     }
     Counts { used, leaked, lost }
 }
@@ -112,8 +103,8 @@ fn lost_in(row: &[u8], start: u64, before: [Lost; KINDS]) -> [Lost; KINDS]
     ensures { result ≡ lost_after row.now start first_kind before }
 {
     let mut lost = before;
-    for i in 0..row.len() {
-        let kind = lost_kind(row[i]);
+    for (i, byte) in row.iter().enumerate() {
+        let kind = lost_kind(*byte);
         if kind != UNOWNED {
             let place = (kind - FIRST_KIND) as usize;
             // A number above the last kind counts for none.
@@ -126,13 +117,6 @@ fn lost_in(row: &[u8], start: u64, before: [Lost; KINDS]) -> [Lost; KINDS]
     lost
 }
 
-fn row_end(at: usize, end: usize) -> usize
-    requires { at < end }
-    ensures { (at < result) × (result ≤ end) × (result < at + 256) }
-{
-    if end - at < ROW { end } else { at + ROW }
-}
-
 // Bytes are looked at one by one only in a row that has a lost block.
 fn totals_of(cells: &[u8]) -> Totals
     ensures { result ≡ totals_of cells.now }
@@ -141,18 +125,16 @@ fn totals_of(cells: &[u8]) -> Totals
     let mut lost = [none; KINDS];
     let mut used: u64 = 0;
     let mut leaked: u64 = 0;
-    let mut at = 0;
-    while at < cells.len() {
-        let end = row_end(at, cells.len());
-        let row = &cells[at..end];
+    let mut at: u64 = 0;
+    for row in cells.chunks(ROW) {
         let counts = counts_of(row);
         used += counts.used as u64;
         leaked += counts.leaked as u64;
         if counts.lost != UNOWNED {
-            let next = lost_in(row, at as u64, lost);
+            let next = lost_in(row, at, lost);
             lost = next;
         }
-        at = end;
+        at += row.len() as u64;
     }
     Totals { used, leaked, lost }
 }
@@ -168,13 +150,7 @@ pub fn count_blocks(map: &[u8], blocks: u64) -> Totals
 fn none_lost(lost: [Lost; KINDS]) -> bool
     ensures { result ≡ eqb (lost_in lost 0) 0 }
 {
-    for i in 0..KINDS {
-        let l = lost[i];
-        if l.count != 0 {
-            return false;
-        }
-    }
-    true
+    lost.iter().all(|l| l.count == 0)
 }
 
 pub fn verdict(lost: [Lost; KINDS], overlaps: u64, problems: u64) -> u8

@@ -1,7 +1,6 @@
 -- Laws of nodes that were read before: a walk that came to its end has read every node of its tree, and a scan meets no other.
 use mathlib.Core.Path.{◌≡◌, refl, sym, ap, ◌∙◌}
-use mathlib.Core.Logic.{◌≢◌}
-use mathlib.Core.Bool.{false}
+use mathlib.Core.Bool.{true, false}
 use mathlib.Core.List.{List, [], ◌∷◌}
 use Prim.Native.Nat.{ℕ, zero, suc, ◌+◌, ◌≤◌, ◌<◌, pred}
 use native.Mathlib.Decide.{dec_le}
@@ -10,20 +9,14 @@ use Rattle.blocks.specs.Reads.{Reads, given, run, ◌>>=◌}
 use Rattle.blocks.proofs.Laws.{then_given, need_held, both}
 use Rattle.blocks.specs.declared.Address.{Address}
 use Rattle.blocks.specs.declared.Container.{Container}
-use Rattle.blocks.specs.declared.ObjectId.{ObjectId}
 use Rattle.nodes.specs.Node.{is_leaf, key_count, entry}
 use Rattle.nodes.specs.Scan.{look_at, pointer_past, one_below}
 use Rattle.nodes.specs.Walk.{Walked, children_from, next_node, each, children_of, walk_below, most_levels, walk}
 use Rattle.nodes.specs.declared.Description.{Description}
-use Rattle.nodes.proofs.Laws.{node_given}
-use Rattle.checkpoint.specs.declared.Mapped.{Mapped}
-use Rattle.trees.specs.clauses.Visits.{child_for, tree_child, child_below}
+use Rattle.trees.specs.clauses.Visits.{Plan, AsRead, child_below}
 use Rattle.trees.specs.clauses.Walks.{pointer_of}
-use Rattle.trees.specs.clauses.Read.{NodeRead, ReadBelow, TreeRead, WalkedFor, ScanRead, ChildRead}
-use Rattle.trees.specs.declared.Purpose.{Purpose}
-use Rattle.trees.specs.declared.Purpose.TheVariants.{PoolQueue, Mappings, MainQueue}
-use Rattle.trees.specs.declared.Tree.{Tree}
-use Rattle.trees.proofs.WalkLaws.{given_same, children_step, node_turn, walk_visited}
+use Rattle.trees.specs.clauses.Read.{NodeRead, ReadBelow, TreeRead, ScanRead, ChildRead}
+use Rattle.trees.proofs.WalkLaws.{given_same, children_step, node_turn}
 
 unfoldable All : (ℕ → Type 0) → List ℕ → Type 0
 All P [] = Unit {0}
@@ -73,9 +66,8 @@ module _ {S : Type 0} (f : ℕ → List ℕ) (visit : S → Address → Reads S)
       let node = both f (next_node c w.left (record { 0 = a })) _ v e in
       let turn = node_turn f c _ _ node.first node.came in
       let visited = both f (visit w.state (record { 0 = a })) _ v node.rest in
-      let read : NodeRead f c a = turn.1 ∙ ap given (node_given f c (record { 0 = a }) node.first turn.1) in
-      let children : run f (children_of visit c d (walk_below visit c d levels) (f a) (record { left = pred w.left; state = visited.first })) ≡ given v = sym (walk_visited f visit c d levels a w turn.0 (f a) read visited.first visited.came) ∙ e in
-      (read, λ index i x h q. children_all (λ y. NodeRead f c y × ReadBelow f c d levels (f y)) (walk_below visit c d levels) (below_read levels) (f a) (record { left = pred w.left; state = visited.first }) v (rw index at children) i x (omega arith) h q)
+      let children : run f (children_of visit c d (walk_below visit c d levels) (f a) (record { left = pred w.left; state = visited.first })) ≡ given v = ap (λ (b : List ℕ). run f (children_of visit c d (walk_below visit c d levels) b (record { left = pred w.left; state = visited.first }))) (sym turn.2) ∙ visited.rest in
+      (turn.1, λ index i x h q. children_all (λ y. NodeRead f c y × ReadBelow f c d levels (f y)) (walk_below visit c d levels) (below_read levels) (f a) (record { left = pred w.left; state = visited.first }) v (rw index at children) i x (omega arith) h q)
 
   -- a whole walk that came to its end
   pub walk_read : (root : Address) (s t : S) → run f (walk visit c d root s) ≡ given t → TreeRead f c d (f root.0)
@@ -101,39 +93,23 @@ past_pointer f d b left i a e =
     let looked = both f (look_at d b left (i + 1)) _ a found.rest in
     then_given f _ _ found.first found.came ∙ looked.rest
 
--- a child of the object map's tree is the block that it is read from
-mapping_child : (f : ℕ → List ℕ) (c : Container) (mapped : ObjectId → Mapped) (purpose : Purpose) (a : ℕ) (m : List ℕ) → purpose ≡ Mappings → run f (child_for c mapped purpose a) ≡ given m → m ≡ f a
-unfolding child_for
-mapping_child f c mapped purpose a m p e = node_given f c (record { 0 = a }) m (rw p at e)
-
 -- entry i of the n that the index node in block at has: the child that it names was read, and so was all below it
-module _ (f : ℕ → List ℕ) (t : Tree) (at : ℕ) (read : ScanRead f t (f at)) (b : List ℕ) (is : b ≡ f at) (index : is_leaf b ≡ false) (n i : ℕ) (count : n ≡ key_count b) (h : i < n) where
-  entry_child : t.purpose ≡ Mappings → (a : ℕ) → run f (pointer_of t.description b i) ≡ given a → NodeRead f t.checkpoint.container a × TreeRead f t.checkpoint.container t.description (f a)
-  entry_child p a q = child_read f _ _ b (rw is (read p)) index i a (omega arith) q
+module _ {F : Type 0} (f : ℕ → List ℕ) (c : Container) (p : Plan F) (d : Description) (at : ℕ) (read : ScanRead f c p d (f at)) (b : List ℕ) (is : b ≡ f at) (index : is_leaf b ≡ false) (n i : ℕ) (count : n ≡ key_count b) (h : i < n) where
+  entry_child : p.walked ≡ true → (a : ℕ) → run f (pointer_of d b i) ≡ given a → NodeRead f c a × TreeRead f c d (f a)
+  entry_child w a q = child_read f c d b (rw is (read w)) index i a (omega arith) q
 
-  pub entry_read : ChildRead f t b i
-  entry_read p a q = (entry_child p a q).0
+  pub entry_read : ChildRead f c p d b i
+  entry_read w a q = (entry_child w a q).0
 
-  pub child_scanned : (level left : ℕ) (m : List ℕ) → run f (child_below t.description (tree_child f t) level b left i) ≡ given m → ScanRead f t m
+  pub child_scanned : AsRead p → (level left : ℕ) (m : List ℕ) → run f (child_below d (p.child f) level b left i) ≡ given m → ScanRead f c p d m
   unfolding run child_below one_below
-  child_scanned level left m e p =
-      let to = both f (pointer_past t.description b left i) _ m e in
-      let node = both f (tree_child f t to.first) _ m to.rest in
+  child_scanned as_read level left m e w =
+      let to = both f (pointer_past d b left i) _ m e in
+      let node = both f (p.child f to.first) _ m to.rest in
       let same : node.first ≡ m = given_same (given node.first) _ _ refl (need_held f _ _ _ m node.rest).1 in
-      let block : node.first ≡ f to.first = mapping_child f _ _ t.purpose to.first node.first p node.came in
-      rw (← same, block) (entry_child p to.first (past_pointer f _ b left i to.first to.came)).1
+      let block : node.first ≡ f to.first = as_read f to.first node.first w node.came in
+      rw (← same, block) (entry_child w to.first (past_pointer f d b left i to.first to.came)).1
 
--- the child that its pointer names, and that it needs no reading
-pub pointer_known : (f : ℕ → List ℕ) (t : Tree) (b : List ℕ) (left i a : ℕ) → ChildRead f t b i → run f (pointer_past t.description b left i) ≡ given a → WalkedFor t.purpose (NodeRead f t.checkpoint.container a)
-pointer_known f t b left i a read e p = read p a (past_pointer f _ b left i a e)
-
-pub child_known : (f : ℕ → List ℕ) (c : Container) (mapped : ObjectId → Mapped) (purpose : Purpose) (a : ℕ) → purpose ≡ Mappings → WalkedFor purpose (NodeRead f c a) → run f (child_for c mapped purpose a) ≡ given (f a)
-unfolding child_for
-child_known f c mapped purpose a p read = rw p (read p)
-
--- a queue's purpose is another
-pub pool_queue_else : PoolQueue ≢ Mappings
-pool_queue_else e = let z : ◌≡◌ {A = ℕ} 0 1 = cc in omega arith
-
-pub main_queue_else : MainQueue ≢ Mappings
-main_queue_else e = let z : ◌≡◌ {A = ℕ} 0 1 = cc in omega arith
+-- the child that its pointer names needs no reading
+pub pointer_known : {F : Type 0} (f : ℕ → List ℕ) (c : Container) (p : Plan F) (d : Description) (b : List ℕ) (left i a : ℕ) → ChildRead f c p d b i → run f (pointer_past d b left i) ≡ given a → p.walked ≡ true → NodeRead f c a
+pointer_known f c p d b left i a read e w = read w a (past_pointer f d b left i a e)

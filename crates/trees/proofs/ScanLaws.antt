@@ -1,19 +1,22 @@
--- Laws of scans: their loops, and that the purpose leaves the other figures as they were.
+-- Laws of scans: their loops.
 use mathlib.Core.Path.{ap, ◌≡◌, refl, sym, ◌∙◌}
 use mathlib.Core.Bool.{Bool, true, false}
 use mathlib.Core.List.{List}
 use Prim.Native.Nat.{ℕ, zero, suc, ◌+◌, ◌-◌, ◌<◌, pred}
 use native.Mathlib.Omega.{arith}
 use borrow.Author.Tests.{ne_eqb}
-use Rattle.fields.specs.Choice.{choose}
-use Rattle.blocks.specs.Reads.{Reads, done, refuse, read, Outcome, given, refused, run, ◌>>=◌, need}
-use Rattle.blocks.proofs.Laws.{and_then, run_bind, then_given, then_refused}
+use Rattle.blocks.specs.Reads.{Reads, done, refuse, read, given, refused, run, ◌>>=◌, need}
+use Rattle.blocks.proofs.Laws.{then_given, then_refused}
 use Rattle.blocks.specs.declared.Refusal.{Refusal}
 use Rattle.blocks.proofs.Laws.{bind_assoc as assoc}
 use Rattle.nodes.specs.Node.{Entry, is_leaf, level_of, key_count, entry}
-use Rattle.nodes.specs.Scan.{leaf_from, pointer_past, one_below, index_from, scan_node, below, scan}
+use Rattle.nodes.specs.Scan.{leaf_from, pointer_past, one_below, index_from, scan_node, below}
 use Rattle.nodes.specs.declared.Description.{Description}
-use Rattle.trees.specs.clauses.Visits.{child_below}
+use Rattle.block_map.specs.clauses.Maps.{Unlogged}
+use Rattle.report.specs.declared.Cursor.{Cursor}
+use Rattle.trees.specs.clauses.Visits.{Plan, child_below}
+use Rattle.trees.specs.clauses.Answers.{leaf_of}
+use Rattle.trees.proofs.WalkLaws.{pred_less}
 
 -- sequences, whatever comes after
 
@@ -25,10 +28,6 @@ unfolding run ◌>>=◌
 bind_cong f (done a) g h e = e a
 bind_cong f (refuse r) g h e = refl
 bind_cong f (read n k) g h e = bind_cong f (k (f n)) g h e
-
-pub pred_less : (n : ℕ) → pred n ≡ n - 1
-pred_less zero = refl
-pred_less (suc n) = omega arith
 
 module _ {S : Type 0} (f : ℕ → List ℕ) (visit : S → Entry → Reads S) (d : Description) (child : ℕ → Reads (List ℕ)) where
   -- a child, and what follows it
@@ -61,11 +60,10 @@ module _ {S : Type 0} (f : ℕ → List ℕ) (visit : S → Entry → Reads S) (
     index_refused zero h r e = absurd (omega arith)
     index_refused (suc left) h r e = let less : suc left - 1 ≡ left = omega arith in index_step level left i b s ∙ then_refused f _ _ r (rw less at e)
 
-    -- l is the child's level
-    pub index_found : (left : ℕ) → 0 < left → (m : List ℕ) → run f (child_below d child level b (left - 1) i) ≡ given m → (l : ℕ) → pred level ≡ l
-        → run f (index_from visit d child (below visit d child level) b left i s) ≡ run f (scan_node visit d child (below visit d child l) m s >>= index_from visit d child (below visit d child level) b (left - 1) (i + 1))
-    index_found zero h m e l q = absurd (omega arith)
-    index_found (suc left) h m e l q = let less : suc left - 1 ≡ left = omega arith in rw (less, ← q) (index_step level left i b s ∙ then_given f _ _ m (rw less at e))
+    pub index_found : (left : ℕ) → 0 < left → (m : List ℕ) → run f (child_below d child level b (left - 1) i) ≡ given m
+        → run f (index_from visit d child (below visit d child level) b left i s) ≡ run f (scan_node visit d child (below visit d child (level - 1)) m s >>= index_from visit d child (below visit d child level) b (left - 1) (i + 1))
+    index_found zero h m e = absurd (omega arith)
+    index_found (suc left) h m e = let less : suc left - 1 ≡ left = omega arith in rw (less, ← pred_less level) (index_step level left i b s ∙ then_given f _ _ m (rw less at e))
 
   -- the entries of a leaf from the i-th on, of which left are left
   module _ (b : List ℕ) (i : ℕ) (s : S) where
@@ -93,69 +91,7 @@ module _ {S : Type 0} (f : ℕ → List ℕ) (visit : S → Entry → Reads S) (
     unfolding scan_node
     scan_index e = rw e refl
 
--- all entries, by the count that was read
-pub all_leaf : {S : Type 0} (visit : S → Entry → Reads S) (d : Description) (child : ℕ → Reads (List ℕ)) (b : List ℕ) (n : ℕ) (s : S) → n ≡ key_count b → leaf_from visit d child b n 0 s ≡ leaf_from visit d child b (key_count b) 0 s
-all_leaf visit d child b n s e = rw e refl
-
--- a whole index node, by the block that it is and the count that was read
-pub whole_index : {S : Type 0} (f : ℕ → List ℕ) (visit : S → Entry → Reads S) (d : Description) (child : ℕ → Reads (List ℕ)) (down : List ℕ → S → Reads S) (node b : List ℕ) (n : ℕ) (s : S) → node ≡ b → is_leaf node ≡ false → n ≡ key_count node
-    → run f (index_from visit d child down node n 0 s) ≡ run f (scan_node visit d child down b s)
-whole_index f visit d child down node b n s is index e = rw (e, ← is) (sym (scan_index f visit d child down node s index))
-
--- a scan whose state is wider: it leaves what its visits leave
-
-abbrev pub raised : {S T : Type 0} → (S → T) → Outcome S → Outcome T
-raised up (given s) = given (up s)
-raised up (refused r) = refused r
-
-module _ {S T : Type 0} (f : ℕ → List ℕ) (up : S → T) where
-  Wider : (S → Reads S) → (T → Reads T) → Type 0
-  Wider p q = (s : S) → run f (q (up s)) ≡ raised up (run f (p s))
-
-  -- two steps that are wider, one after the other
-  wider_then : (p : S → Reads S) (q : T → Reads T) (g : S → Reads S) (h : T → Reads T) → Wider p q → Wider g h → (s : S) → run f (q (up s) >>= h) ≡ raised up (run f (p s >>= g))
-  unfolding Wider
-  wider_then p q g h a b s = run_bind f (q (up s)) h ∙ rw (a s, run_bind f (p s) g) (go (run f (p s)))
-    where
-      go : (o : Outcome S) → and_then (raised up o) (λ t. run f (h t)) ≡ raised up (and_then o (λ t. run f (g t)))
-      go (given t) = b t
-      go (refused r) = refl
-
-  -- the same steps before both
-  pub wider_after : {A : Type 0} (p : Reads A) (g : A → Reads S) (h : A → Reads T) → ((a : A) → run f (h a) ≡ raised up (run f (g a))) → run f (p >>= h) ≡ raised up (run f (p >>= g))
-  unfolding run ◌>>=◌
-  wider_after (done a) g h e = e a
-  wider_after (refuse r) g h e = refl
-  wider_after (read n k) g h e = wider_after (k (f n)) g h e
-
-  module _ (visit : S → Entry → Reads S) (visits : T → Entry → Reads T) (wide : (e : Entry) (s : S) → run f (visits (up s) e) ≡ raised up (run f (visit s e))) (d : Description) (child : ℕ → Reads (List ℕ)) where
-    leaf_wider : (b : List ℕ) (left i : ℕ) (s : S) → run f (leaf_from visits d child b left i (up s)) ≡ raised up (run f (leaf_from visit d child b left i s))
-    unfolding run leaf_from Wider
-    leaf_wider b zero i s = refl
-    leaf_wider b (suc left) i s = wider_after (entry d b i) _ _ (λ e. wider_then (λ s. visit s e) (λ t. visits t e) _ _ (wide e) (leaf_wider b left (i + 1)) s)
-
-    module _ (down : List ℕ → S → Reads S) (downs : List ℕ → T → Reads T) (same : (n : List ℕ) (s : S) → run f (downs n (up s)) ≡ raised up (run f (down n s))) where
-      index_wider : (b : List ℕ) (left i : ℕ) (s : S) → run f (index_from visits d child downs b left i (up s)) ≡ raised up (run f (index_from visit d child down b left i s))
-      unfolding run index_from Wider
-      index_wider b zero i s = refl
-      index_wider b (suc left) i s =
-          wider_after (pointer_past d b left i) _ _ λ a. wider_after (child a) _ _ λ n. wider_then (down n) (downs n) _ _ (same n) (index_wider b left (i + 1)) s
-
-      node_wider : (b : List ℕ) (s : S) → run f (scan_node visits d child downs b (up s)) ≡ raised up (run f (scan_node visit d child down b s))
-      unfolding scan_node
-      node_wider b s = go (is_leaf b)
-        where
-          go : (t : Bool)
-              → run f (choose t (λ _. leaf_from visits d child b (key_count b) 0 (up s)) (λ _. index_from visits d child downs b (key_count b) 0 (up s)))
-              ≡ raised up (run f (choose t (λ _. leaf_from visit d child b (key_count b) 0 s) (λ _. index_from visit d child down b (key_count b) 0 s)))
-          go true = leaf_wider b (key_count b) 0 s
-          go false = index_wider b (key_count b) 0 s
-
-    below_wider : (level : ℕ) (b : List ℕ) (s : S) → run f (below visits d child level b (up s)) ≡ raised up (run f (below visit d child level b s))
-    unfolding run below
-    below_wider zero b s = refl
-    below_wider (suc level) b s = wider_after (one_below (suc level) b) _ _ (λ n. node_wider _ _ (below_wider level) n s)
-
-    pub scan_wider : (b : List ℕ) (s : S) → run f (scan visits d child b (up s)) ≡ raised up (run f (scan visit d child b s))
-    unfolding scan
-    scan_wider b s = node_wider _ _ (below_wider (level_of b)) b s
+-- an entry of a leaf that logged nothing
+pub leaf_on : {F : Type 0} (f : ℕ → List ℕ) (p : Plan F) (d : Description) (b : List ℕ) (at : Cursor) (count : ℕ) (e : Entry) (r : Bool) (before after : List ℕ) → 0 < at.left → run f (entry d b at.next) ≡ given e → Unlogged f count r before after (λ s. p.visit f s e) → r ≡ true
+    → (figures : F) → run f (leaf_of p d f b at (record { map = before; figures = figures })) ≡ run f (leaf_of p d f b (record { next = at.next + 1; left = at.left - 1 }) (record { map = after; figures = figures }))
+leaf_on f p d b at count e r before after some is h y figures = leaf_found f _ _ _ b at.next _ at.left some e is ∙ then_given f _ _ _ (h.made y figures)

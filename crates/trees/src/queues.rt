@@ -1,76 +1,57 @@
 // The trees that a pass scans: the two free queues, and the object map's mappings.
-ghost use Rattle.std.specs.Prelude.{◌≡◌, ◌≢◌};
-ghost use Rattle.audit.specs.Audit.{no_audit};
 ghost use Rattle.audit.specs.clauses.Answers.{AuditsAs};
 ghost use Rattle.claims.specs.Claims.{claim_mappings};
-ghost use Rattle.trees.specs.declared.Purpose.TheVariants.{Mappings};
+ghost use Rattle.trees.specs.clauses.Visits.{IsQueue};
 ghost use Rattle.trees.specs.clauses.Answers.{Visits, ClaimsAs, TreeReadAt, root_scan, queue_scan, audited_queue, claimed_queue};
 
-use crate::scans::{done, refused, scan};
-use crate::{Figures, Purpose, Tree, Visited};
-use audit::{Audit, Audited};
-use blocks::{Address, ObjectId, Presence};
-use checkpoint::{Checkpoint, Mapped};
-use claims::Claimed;
-use nodes::{Description, DescriptionAnswer};
+use crate::Tree;
+use crate::scans::scan;
+use crate::visitors::{MainQueue, Mappings, PoolQueue, Visitor};
+use audit::Audit;
+use blocks::{Address, ObjectId, Refusal};
+use checkpoint::Checkpoint;
+use nodes::Description;
 use pool::PoolPlace;
 use report::OverlapLog;
 
 // The queue whose root was read from an address.
-fn scan_root(
+fn scan_root<V: Visitor>(
     image: &[u8],
     map: &mut [u8],
     checkpoint: Checkpoint,
-    pool: PoolPlace,
-    purpose: Purpose,
+    visitor: V,
     root: Address,
-    figures: Figures,
-) -> Visited
-    requires { purpose ≢ Mappings }
-    ensures { Visits image map checkpoint figures result (root_scan checkpoint pool purpose root) }
+    figures: V::Figures,
+) -> Result<V::Figures, Refusal>
+    requires { IsQueue checkpoint (V.plan visitor checkpoint) }
+    ensures { Visits image map checkpoint figures result (root_scan checkpoint (V.plan visitor checkpoint) root) }
 {
-    let container = checkpoint.container;
-    let described = nodes::node::describe(blocks::block(image, container.size, root));
-    match described {
-        DescriptionAnswer::Refused(r) => refused(r, figures),
-        DescriptionAnswer::Given(description) => {
-            let tree = Tree {
-                checkpoint,
-                pool,
-                purpose,
-                description,
-            };
-            scan(image, map, tree, root, figures)
-        }
-    }
+    let node = blocks::block(image, checkpoint.container.size, root);
+    let description = nodes::node::describe(node)?;
+    let tree = Tree {
+        checkpoint,
+        description,
+    };
+    scan(image, map, tree, visitor, root, figures)
 }
 
 // The queue whose root has an id; one that isn't mapped is skipped.
-fn scan_queue(
+fn scan_queue<V: Visitor>(
     image: &[u8],
     map: &mut [u8],
     checkpoint: Checkpoint,
-    pool: PoolPlace,
-    purpose: Purpose,
+    visitor: V,
     root: ObjectId,
-    figures: Figures,
-) -> Visited
-    requires { purpose ≢ Mappings }
-    ensures { Visits image map checkpoint figures result (queue_scan checkpoint pool purpose root) }
+    figures: V::Figures,
+) -> Result<V::Figures, Refusal>
+    requires { IsQueue checkpoint (V.plan visitor checkpoint) }
+    ensures { Visits image map checkpoint figures result (queue_scan checkpoint (V.plan visitor checkpoint) root) }
 {
-    let mapped = checkpoint::chain::lookup(image, checkpoint, root);
-    match mapped {
-        Mapped::Nowhere => done(figures),
-        Mapped::To(m) => {
-            let container = checkpoint.container;
-            let a = m.address;
-            let seen = nodes::node::read_node(image, container, a);
-            match seen {
-                Presence::Refused(r) => refused(r, figures),
-                Presence::There => scan_root(image, map, checkpoint, pool, purpose, a, figures),
-            }
-        }
-    }
+    let Some(mapping) = checkpoint::chain::lookup(image, checkpoint, root) else {
+        return Ok(figures);
+    };
+    nodes::node::read_node(image, checkpoint.container, mapping.address)?;
+    scan_root(image, map, checkpoint, visitor, mapping.address, figures)
 }
 
 // The entries of the pool queue, audited.
@@ -81,35 +62,10 @@ pub fn audit_queue(
     pool: PoolPlace,
     root: ObjectId,
     audit: Audit,
-) -> Audited
+) -> Result<Audit, Refusal>
     ensures { AuditsAs image map checkpoint.container audit result (audited_queue checkpoint pool root) }
 {
-    let overlaps = report::logs::no_overlaps();
-    let figures = Figures { audit, overlaps };
-    let purpose = Purpose::PoolQueue;
-    let visited = scan_queue(image, map, checkpoint, pool, purpose, root, figures);
-    let ending = visited.ending;
-    let figures = visited.figures;
-    let audit = figures.audit;
-    Audited { ending, audit }
-}
-
-// A scan that claims looks at no figure of the audit.
-fn unaudited(overlaps: OverlapLog) -> Figures
-    ensures { result ≡ record { audit = no_audit; overlaps = overlaps } }
-{
-    let audit = audit::problems::nothing_audited();
-    Figures { audit, overlaps }
-}
-
-// The overlaps that a scan found, beside how it ended.
-fn overlaps_in(visited: Visited) -> Claimed
-    ensures { result ≡ record { ending = visited.ending; log = visited.figures.overlaps } }
-{
-    let ending = visited.ending;
-    let figures = visited.figures;
-    let log = figures.overlaps;
-    Claimed { ending, log }
+    scan_queue(image, map, checkpoint, PoolQueue(pool), root, audit)
 }
 
 // The blocks in the main queue, claimed.
@@ -117,15 +73,13 @@ pub fn claim_queue(
     image: &[u8],
     map: &mut [u8],
     checkpoint: Checkpoint,
-    pool: PoolPlace,
+    _pool: PoolPlace,
     root: ObjectId,
     log: OverlapLog,
-) -> Claimed
+) -> Result<OverlapLog, Refusal>
     ensures { ClaimsAs image map checkpoint.container log result (claimed_queue checkpoint root) }
 {
-    let purpose = Purpose::MainQueue;
-    let visited = scan_queue(image, map, checkpoint, pool, purpose, root, unaudited(log));
-    overlaps_in(visited)
+    scan_queue(image, map, checkpoint, MainQueue, root, log)
 }
 
 // The mappings of the object map whose tree was walked: its description, and the address of its root.
@@ -133,20 +87,17 @@ pub fn claim_mappings(
     image: &[u8],
     map: &mut [u8],
     checkpoint: Checkpoint,
-    pool: PoolPlace,
+    _pool: PoolPlace,
     description: Description,
     root: Address,
     log: OverlapLog,
-) -> Claimed
+) -> Result<OverlapLog, Refusal>
     requires { TreeReadAt image checkpoint description root }
     ensures { ClaimsAs image map checkpoint.container log result (λ f. claim_mappings checkpoint.container description (f root.0)) }
 {
     let tree = Tree {
         checkpoint,
-        pool,
-        purpose: Purpose::Mappings,
         description,
     };
-    let visited = scan(image, map, tree, root, unaudited(log));
-    overlaps_in(visited)
+    scan(image, map, tree, Mappings, root, log)
 }

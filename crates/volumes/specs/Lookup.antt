@@ -1,6 +1,6 @@
 -- Document 02: "look up the newest mapping not above the checkpoint's xid (in a tree out of order, the one that `lookup_le` reaches)"
 use Rattle.std.specs.Prelude.{Bool, ◌||◌, ◌&&◌, List, ℕ, zero, suc, ◌+◌, ◌-◌, ◌/◌, eqb, ltb}
-use Rattle.std.proofs.Math.Option.{Option, some, none}
+use Rattle.std.specs.Prelude.{Option, Some, None}
 use Rattle.fields.specs.Choice.{choose}
 use Rattle.blocks.specs.Reads.{Reads, done, refuse, ◌>>=◌}
 use Rattle.blocks.specs.Blocks.{field}
@@ -51,9 +51,9 @@ module _ (c : Container) (d : Description) (id : ObjectId) where
   unfoldable pub lookup_from : ℕ → List ℕ → Reads (Option Entry)
   lookup_from zero b = refuse WrongLevel
   lookup_from (suc level) b =
-      search d id c.xid b >>= λ n. choose (eqb n 0) (λ _. done none)
+      search d id c.xid b >>= λ n. choose (eqb n 0) (λ _. done None)
       (λ _. choose (is_leaf b)
-      (λ _. entry d b (n - 1) >>= λ e. done (some e))
+      (λ _. entry d b (n - 1) >>= λ e. done (Some e))
       (λ _. child_at c d level b (n - 1) >>= lookup_from level))
 
   -- from the root b down: level 0 is the last

@@ -1,6 +1,6 @@
 -- The volumes that a superblock names, and the claims of their own trees. Quoted sentences are of document 02.
 use Rattle.std.specs.Prelude.{Bool, not, ◌&&◌, List, [], ◌∷◌, ◌++◌, ℕ, zero, suc, ◌+◌, eqb, ltb}
-use Rattle.std.proofs.Math.Option.{Option, some, none}
+use Rattle.std.specs.Prelude.{Option, Some, None}
 use Rattle.fields.specs.Choice.{choose}
 use Rattle.fields.specs.Fields.{num}
 use Rattle.fields.specs.Header.{kind_of, volume_kind}
@@ -29,15 +29,15 @@ live_address v = do
 
 -- "23, a volume's lookup reaches none, a ghost or a deleted mapping": another id's mapping is none of this one's
 unfoldable pub mapped_by : ObjectId → List ℕ → Option (List ℕ) → Reads Address
-mapped_by id key none = refuse VolumeUnmapped
-mapped_by id key (some v) = do
+mapped_by id key None = refuse VolumeUnmapped
+mapped_by id key (Some v) = do
   i ← field 8 key 0
   _ ← need (eqb i id.0) VolumeUnmapped
   live_address v
 
 unfoldable pub volume_address : ObjectId → Option Entry → Reads Address
-volume_address id none = refuse VolumeUnmapped
-volume_address id (some e) = mapped_by id e.key e.value
+volume_address id None = refuse VolumeUnmapped
+volume_address id (Some e) = mapped_by id e.key e.value
 
 -- the bytes APSB
 abbrev pub volume_magic : ℕ

@@ -2,11 +2,12 @@
 use mathlib.Core.Path.{◌≡◌, refl, sym, ap, ◌∙◌}
 use mathlib.Core.List.{List, [], ◌∷◌, ◌++◌, append_assoc, append-nil}
 use Prim.Native.Nat.{ℕ, zero, suc, ◌+◌, ◌-◌, ◌*◌, ◌/◌, ◌%◌, ◌^◌, ◌≤◌, ◌<◌}
-use native.Mathlib.Nat.{pow-zero, pow-suc, sub-zero}
+use native.Mathlib.Nat.{pow-zero, pow-suc}
 use native.Mathlib.Omega.{arith}
-use lib.ListN.{length, take, drop, set, get_or, replicate, length-append, length-take, length-drop, length-set, length-replicate, replicate-append-replicate, take-append-drop, drop_of_length-le, get_or-eq_default}
+use lib.ListN.{length, take, drop, set, get_or, replicate, length-append, length-take, length-drop, length-set, length-replicate, replicate-append-replicate, take-append-drop, get_or-eq_default}
 use native.Mathlib.Decide.{dec_lt}
-use lib.Seq.{drop-cons, take_all, get_or-take, get_or-drop, drop-drop, drop-length, drop-set-lt, take-suc-set, take-take, take-add, take-append-le, drop-append-le, take_at, drop_at, length-take-le}
+use lib.Seq.{take_all, get_or-take, get_or-drop, drop-drop, drop-length, drop-set-lt, take-suc-set, take-take, take-add, take-append-le, drop-append-le, take_at, drop_at, length-take-le}
+use borrow.Rule.Slice.PartMut.{put_mid}
 use Rattle.fields.specs.Fields.{le, num}
 use Rattle.writers.specs.Bytes.{le_bytes}
 use Rattle.writers.specs.clauses.Wrote.{written, Wrote}
@@ -238,6 +239,17 @@ written_padded l x at end h k m room =
 pub wrote_length : {x a b : List ℕ} {at r : ℕ} → Wrote x at a b r → length b ≡ length a
 wrote_length {x} {a} {b} {at} w = ap length w.is ∙ length_written a x at w.room
 
+-- a part that is written whole
+pub wrote_part : {x y l : List ℕ} (at n r : ℕ) → at + length x ≤ length l → y ≡ x → n ≡ length x → r ≡ at + length x → Wrote x at l (put_mid at n l y) r
+unfolding written
+wrote_part {x} {y} {l} at n r h e long next = record { room = h; is = λ i. take at l ++ (e i ++ rest i); next = next }
+  where
+    rest : drop n (drop at l) ≡ drop (at + length x) l
+    rest = drop-drop n at l ∙ ap (λ (k : ℕ). drop (at + k) l) long
+
+pub part_length : (l : List ℕ) (at n : ℕ) → at + n ≤ length l → length (take (at + n - at) (drop at l)) ≡ n
+part_length l at n h = simp (length-take, length-drop) (omega arith)
+
 -- one writer after another
 pub wrote_then : {x y a b c : List ℕ} {at r s : ℕ} → Wrote x at a b r → Wrote y r b c s → Wrote (x ++ y) at a c s
 wrote_then {x} {y} {a} {b} {c} {at} {r} {s} v w =
@@ -261,20 +273,7 @@ module _ (x : List ℕ) (at : ℕ) (first : List ℕ) where
   pub writing_from : (end : ℕ) → end ≡ at → Writing x end first x at first
   writing_from end e = record { same = refl; long = omega arith; left = ap (λ (n : ℕ). written first n x) e }
 
-  -- one byte, or one piece, more
-  pub writing_more : (ys xs l : List ℕ) (k y : ℕ) → Writing ys (at + k) l x at first → ys ≡ y ∷ xs → at + length x ≤ length first → Writing xs (at + (k + 1)) (set l (at + k) y) x at first
-  writing_more ys xs l k y w e room =
-      let long : at + k + length (y ∷ xs) ≡ at + length x = rw e at w.long in
-      let left : written l (at + k) (y ∷ xs) ≡ written first at x = rw e at w.left in
-      record {
-        same = simp length-set w.same;
-        long = omega arith;
-        left = ap (λ (n : ℕ). written (set l (at + k) y) n xs) (next at k) ∙ written_first l xs (at + k) y (omega (arith, w.same)) ∙ left;
-      }
-    where
-      next : (m n : ℕ) → m + (n + 1) ≡ m + n + 1
-      next m n = omega arith
-
+  -- one piece more
   pub writing_next : (ys y xs l after : List ℕ) (end r : ℕ) → Writing ys end l x at first → ys ≡ y ++ xs → Wrote y end l after r → Writing xs r after x at first
   writing_next ys y xs l after end r w e v =
       let long : end + length (y ++ xs) ≡ at + length x = rw e at w.long in
@@ -292,48 +291,29 @@ module _ (x : List ℕ) (at : ℕ) (first : List ℕ) where
   pub writing_done : (xs l : List ℕ) (end r : ℕ) → Writing xs end l x at first → xs ≡ [] → at + length x ≤ length first → r ≡ at + length x → Wrote x at first l r
   writing_done xs l end r w e room next = record { room = room; is = sym (written_none l end) ∙ (rw e at w.left); next = next }
 
--- what is left of each of the three writers' bytes
-pub bytes_more : (w k v : ℕ) → k < w → le_bytes (w - k) v ≡ (v % 256) ∷ le_bytes (w - (k + 1)) (v / 256)
+-- one byte more of a number
+pub byte_more : (bytes whole : List ℕ) (k n : ℕ) → k < length bytes → take k bytes ++ le_bytes (length bytes - k) n ≡ whole
+    → take (k + 1) (set bytes k (n % 256)) ++ le_bytes (length (set bytes k (n % 256)) - (k + 1)) (n / 256) ≡ whole
 unfolding le_bytes
-bytes_more w k v h = rw e refl
+byte_more bytes whole k n h e =
+    rw (next, length-set)
+    (λ i. take-suc-set bytes k (n % 256) h i ++ le_bytes (length bytes - suc k) (n / 256))
+    ∙ append_assoc (take k bytes) (n % 256 ∷ []) (le_bytes (length bytes - suc k) (n / 256))
+    ∙ ap (λ (w : ℕ). take k bytes ++ le_bytes w n) (sym left)
+    ∙ e
   where
-    e : w - k ≡ suc (w - (k + 1))
-    e = omega arith
+    next : k + 1 ≡ suc k
+    next = omega arith
 
-pub bytes_none : (w k v : ℕ) → w ≤ k → le_bytes (w - k) v ≡ []
+    left : length bytes - k ≡ suc (length bytes - suc k)
+    left = omega arith
+
+pub bytes_done : (bytes whole : List ℕ) (k n : ℕ) → length bytes ≤ k → take k bytes ++ le_bytes (length bytes - k) n ≡ whole → bytes ≡ whole
 unfolding le_bytes
-bytes_none w k v h = rw e refl
+bytes_done bytes whole k n h e = sym (ap (λ (w : ℕ). take k bytes ++ le_bytes w n) none ∙ append-nil (take k bytes) ∙ take_all k bytes h) ∙ e
   where
-    e : w - k ≡ 0
-    e = omega arith
-
-pub zeros_more : (n k : ℕ) → k < n → replicate {A = ℕ} (n - k) 0 ≡ 0 ∷ replicate (n - (k + 1)) 0
-zeros_more n k h = rw e refl
-  where
-    e : n - k ≡ suc (n - (k + 1))
-    e = omega arith
-
-pub zeros_none : (n k : ℕ) → n ≤ k → replicate {A = ℕ} (n - k) 0 ≡ []
-zeros_none n k h = rw e refl
-  where
-    e : n - k ≡ 0
-    e = omega arith
-
-pub part_more : (x : List ℕ) (k : ℕ) → k < length x → drop k x ≡ get_or x k 0 ∷ drop (k + 1) x
-part_more x k h = rw e (drop-cons x k 0 h)
-  where
-    e : k + 1 ≡ suc k
-    e = omega arith
-
--- the start of a count down
-pub bytes_from : (w n at : ℕ) (first : List ℕ) → Writing (le_bytes (w - 0) n) (at + 0) first (le_bytes w n) at first
-bytes_from w n at first = rw sub-zero (writing_from (le_bytes w n) at first (at + 0) (omega arith))
-
-pub zeros_from : (n at : ℕ) (first : List ℕ) → Writing (replicate (n - 0) 0) (at + 0) first (replicate n 0) at first
-zeros_from n at first = rw sub-zero (writing_from (replicate n 0) at first (at + 0) (omega arith))
-
-pub part_none : (x : List ℕ) (k : ℕ) → length x ≤ k → drop k x ≡ []
-part_none x k h = drop_of_length-le x h
+    none : length bytes - k ≡ 0
+    none = omega arith
 
 -- bytes up to the end
 pub written_end : (l x : List ℕ) (at : ℕ) → at + length x ≡ length l → drop at (written l at x) ≡ x

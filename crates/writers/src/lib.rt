@@ -14,26 +14,22 @@ pub fn put(out: &mut [u8], at: usize, width: usize, number: u64) -> usize
     requires { at + width ≤ length out.old }
     ensures { Wrote (le_bytes width number) at out.old out.new result × (result ≡ at + width) }
 {
+    let end = at + width;
     let mut rest = number;
-    let mut k = 0;
-    while k < width {
-        out[at + k] = (rest % BYTE_VALUES) as u8;
-        rest = rest / BYTE_VALUES;
-        k += 1;
+    for byte in out[at..end].iter_mut() {
+        *byte = (rest % BYTE_VALUES) as u8;
+        rest /= BYTE_VALUES;
     }
-    at + width
+    end
 }
 
 pub fn put_bytes(out: &mut [u8], at: usize, bytes: &[u8]) -> usize
     requires { at + length bytes.now ≤ length out.old }
     ensures { Wrote bytes.now at out.old out.new result }
 {
-    let mut k = 0;
-    while k < bytes.len() {
-        out[at + k] = bytes[k];
-        k += 1;
-    }
-    at + bytes.len()
+    let end = at + bytes.len();
+    out[at..end].copy_from_slice(bytes);
+    end
 }
 
 // Bytes that are two words, each with one load and one store.
@@ -51,10 +47,7 @@ pub fn put_zeros(out: &mut [u8], at: usize, count: usize) -> usize
     requires { at + count ≤ length out.old }
     ensures { Wrote (replicate count 0) at out.old out.new result × (result ≡ at + count) }
 {
-    let mut k = 0;
-    while k < count {
-        out[at + k] = 0;
-        k += 1;
-    }
-    at + count
+    let end = at + count;
+    out[at..end].fill(0);
+    end
 }

@@ -12,4 +12,4 @@ pub loop-at-preserved : goal.loop-at-preserved
 loop-at-preserved c = (search rules, search rules, row_cleared _ _ _ _ _ (search rules) (search rules) c.loop-at.invariant.2 c.clear_row.ensures)
 
 pub returns : goal.returns
-returns c = rw (← c.least-end.ensures) (row_cleared _ _ _ _ _ (search rules) (search rules) c.loop-at.invariant.2 c.clear_row-2.ensures)
+returns c = rw (← c.min-end.ensures) (row_cleared _ _ _ _ _ (search rules) (search rules) c.loop-at.invariant.2 c.clear_row-2.ensures)

@@ -1,22 +1,15 @@
-use Rattle.claims.proofs.Laws.{clipped}
-use Rattle.claims.specs.Claims.{claim}
-use Rattle.report.proofs.StepLaws.{given_then, stays_refused}
-use Rattle.blocks.specs.Reads.{run}
-use Rattle.blocks.specs.clauses.Answers.{number_as}
-use Rattle.blocks.proofs.Laws.{then_refused}
 use native.Mathlib.Omega.{arith}
-use mathlib.Core.Path.{sym, ap, ◌∙◌}
+use Rattle.report.proofs.StepLaws.{read_then, read_stop, stepped_is}
+use Rattle.claims.specs.Claims.{claim}
+use Rattle.claims.proofs.Laws.{clipped}
 use Rattle.claims.proofs.claim.Goals as goal
 
-pub returns-in-Refused : goal.returns-in-Refused
+pub returns-in_err-add : goal.returns-in_err-add
 unfolding claim
-returns-in-Refused c = λ f. stays_refused _ _ _ _ (then_refused f _ _ _ (sym (c.add-sum.ensures f) ∙ ap number_as c.in-Refused.is))
+returns-in_err-add c f = read_stop _ _ _ (c.add.ensures f) _ c.in_err-add.was c.from_residual.ensures.1
 
-pub returns-in-Given : goal.returns-in-Given
+pub returns : goal.returns
 unfolding claim
-returns-in-Given c f = let first = c in
-    let end = first in
-    let add = end in
-    let a = add.args in
-    let from = c.claim_from.ensures a.container.count (omega (arith, first.least-next.ensures, end.least-end.ensures)) f in
-    given_then (rw add.owner-claimant.ensures at from) _ _ _ (sym (add.add-sum.ensures f) ∙ ap number_as end.in-Given.is) (ap (run f) (clipped _ a.start _ a.container.count _ _ _ end.least-end.ensures first.least-next.ensures))
+returns c f =
+    let from = rw c.owner-claimant.ensures at c.claim_from.ensures c.args.container.count (omega (arith, c.min-next.ensures, c.min-end.ensures)) f in
+    read_then _ _ _ (c.add.ensures f) _ c.in_ok-add.was (stepped_is from (clipped _ c.args.start _ c.args.container.count _ _ _ c.min-end.ensures c.min-next.ensures))

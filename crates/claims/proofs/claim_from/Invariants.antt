@@ -5,7 +5,7 @@ use Rattle.claims.specs.clauses.Answers.{owned, blocks_left, end_of}
 use Rattle.claims.proofs.claim_from.Given as goal
 
 abbrev pub invariant-loop-at : goal.invariant-loop-at
-invariant-loop-at l = (count : ℕ) → end_of l.initial.at ≤ count → (f : ℕ → List ℕ) → Left f count l.initial.at l.at (owned l.initial.map l.initial.overlaps) (owned l.map l.overlaps) (blocks_left l.kind)
+invariant-loop-at l = let a = l.fn in (count : ℕ) → end_of a.from ≤ count → (f : ℕ → List ℕ) → Left f count a.from l.at (owned a.map a.log) (owned l.map l.log) (blocks_left l.kind)
 
 abbrev pub decreases-loop-at : goal.decreases-loop-at
 decreases-loop-at l = l.at.left

@@ -1,14 +1,11 @@
-use Rattle.report.proofs.StepLaws.{given_then, stays_refused}
+use Rattle.report.proofs.StepLaws.{read_then, read_stop}
 use Rattle.claims.specs.Claims.{claim_queued}
-use Rattle.queue.specs.clauses.Answers.{run_as}
-use Rattle.blocks.proofs.Laws.{then_refused}
-use mathlib.Core.Path.{refl, sym, ap, ◌∙◌}
 use Rattle.claims.proofs.claim_queued.Goals as goal
 
-pub returns-in-Refused : goal.returns-in-Refused
+pub returns-in_err-run : goal.returns-in_err-run
 unfolding claim_queued
-returns-in-Refused c = λ f. stays_refused _ _ _ _ (then_refused f _ _ _ (sym (c.run_of-ran.ensures f) ∙ ap run_as c.in-Refused.is))
+returns-in_err-run c f = read_stop _ _ _ (c.run_of.ensures f) _ c.in_err-run.was c.from_residual.ensures.1
 
-pub returns-in-Given : goal.returns-in-Given
+pub returns : goal.returns
 unfolding claim_queued
-returns-in-Given c = λ f. given_then (c.claim.ensures f) _ _ _ (sym (c.run_of-ran.ensures f) ∙ ap run_as c.in-Given.is) refl
+returns c f = read_then _ _ _ (c.run_of.ensures f) _ c.in_ok-run.was (c.claim.ensures f)

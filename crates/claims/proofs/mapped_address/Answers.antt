@@ -1,17 +1,16 @@
+use borrow.Author.Rules.{rules}
+use Rattle.blocks.proofs.Laws.{at_ok, at_err}
 use Rattle.claims.specs.Claims.{mapped_address}
-use Rattle.blocks.specs.clauses.Answers.{number_as}
-use Rattle.blocks.proofs.Laws.{then_given, then_refused}
-use mathlib.Core.Path.{sym, ap, ◌∙◌}
 use Rattle.claims.proofs.mapped_address.Goals as goal
 
-pub returns-in-Refused : goal.returns-in-Refused
+pub returns-in_err-field_in : goal.returns-in_err-field_in
 unfolding mapped_address
-returns-in-Refused c = λ f. sym (then_refused f _ _ _ (sym (c.field_in-id.ensures f) ∙ ap number_as c.in-Refused.is))
+returns-in_err-field_in c = λ f. search (rules, at_err, c.field_in.ensures f, c.in_err-field_in.was)
 
-pub returns-in-Refused-xid : goal.returns-in-Refused-xid
+pub returns-in_err-field_in-2 : goal.returns-in_err-field_in-2
 unfolding mapped_address
-returns-in-Refused-xid c = λ f. sym (then_given f _ _ _ (sym (c.field_in-id.ensures f) ∙ ap number_as c.in_default.is) ∙ then_refused f _ _ _ (sym (c.field_in-xid.ensures f) ∙ ap number_as c.in-Refused-xid.is))
+returns-in_err-field_in-2 c = λ f. search (rules, at_ok, at_err, c.field_in.ensures f, c.in_ok-field_in.was, c.field_in-2.ensures f, c.in_err-field_in-2.was)
 
 pub returns : goal.returns
 unfolding mapped_address
-returns c = λ f. c.field_in.ensures f ∙ sym (then_given f _ _ _ (sym (c.field_in-id.ensures f) ∙ ap number_as c.in_default.is) ∙ then_given f _ _ _ (sym (c.field_in-xid.ensures f) ∙ ap number_as c.in_default-xid.is))
+returns c = λ f. search (rules, at_ok, c.field_in.ensures f, c.in_ok-field_in.was, c.field_in-2.ensures f, c.in_ok-field_in-2.was, c.field_in-3.ensures f)

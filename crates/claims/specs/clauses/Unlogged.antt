@@ -1,6 +1,6 @@
 -- Claims that overlap nothing.
-use Rattle.std.specs.Prelude.{Bool, true, false, ◌&&◌, ◌||◌, List, ◌≡◌, ℕ, zero, suc, ◌+◌, ◌-◌, min, eqb, get_or}
-use Rattle.std.proofs.Math.Option.{Option, some, none}
+use Rattle.std.specs.Prelude.{Bool, true, false, ◌||◌, List, ◌≡◌, ℕ, zero, suc, ◌+◌, ◌-◌, min, eqb, get_or, Option, Some, None}
+use Rattle.std.specs.List.{list_all, range_with_len}
 use Rattle.blocks.specs.Reads.{Reads, Outcome, given, refused, run, no_blocks}
 use Rattle.blocks.specs.Blocks.{sum}
 use Rattle.blocks.specs.clauses.Images.{LentMut, bytes_lent}
@@ -14,10 +14,12 @@ use Rattle.totals.specs.Totals.{unowned}
 use Rattle.queue.specs.Queue.{run_of}
 use Rattle.claims.specs.Claims.{volume_superblock, free_queue, mapped_address}
 
--- each of the left blocks from a on is unowned, or the kind's own
-unfoldable pub taken_from : ℕ → List ℕ → ℕ → ℕ → Bool
-taken_from kind map zero a = true
-taken_from kind map (suc left) a = (eqb (owner_of (get_or map a 0)) unowned || eqb (owner_of (get_or map a 0)) kind) && taken_from kind map left (a + 1)
+-- a block is unowned, or the kind's own; and so is each of the left blocks from a on
+abbrev pub takes : ℕ → List ℕ → ℕ → Bool
+takes kind map a = let owner = owner_of (get_or map a 0) in eqb owner unowned || eqb owner kind
+
+abbrev pub taken_from : ℕ → List ℕ → ℕ → ℕ → Bool
+taken_from kind map left a = list_all (takes kind map) (range_with_len a left)
 
 -- the map once the kind owns them
 unfoldable pub owned_from : ℕ → List ℕ → ℕ → ℕ → List ℕ
@@ -34,8 +36,8 @@ unfoldable pub unlogged_claim : Container → ℕ → ℕ → ℕ → List ℕ �
 unlogged_claim c kind start len map = meets (run no_blocks (sum start len)) (λ n. taken_from kind map (min n c.count - start) start)
 
 unfoldable pub unlogged_mapped : Container → List ℕ → Option (List ℕ) → List ℕ → Bool
-unlogged_mapped c key none map = true
-unlogged_mapped c key (some v) map = meets (run no_blocks (mapped_address key v)) (λ a. is_deleted v || unlogged_claim c volume_superblock a 1 map)
+unlogged_mapped c key None map = true
+unlogged_mapped c key (Some v) map = meets (run no_blocks (mapped_address key v)) (λ a. is_deleted v || unlogged_claim c volume_superblock a 1 map)
 
 abbrev pub unlogged_mapping : Container → Entry → List ℕ → Bool
 unlogged_mapping c e map = unlogged_mapped c e.key e.value map

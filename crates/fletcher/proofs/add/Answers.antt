@@ -1,26 +1,26 @@
 use native.Mathlib.Omega.{arith}
-use borrow.Author.Rules.{rules}
-use mathlib.Core.Path.{◌≡◌, refl}
+use mathlib.Core.Path.{refl, ap, ◌∙◌}
 use mathlib.Core.List.{[]}
-use Prim.Native.Nat.{◌+◌, ◌-◌, ◌%◌}
-use lib.ListN.{length-take, length-drop}
-use Rattle.fletcher.proofs.Laws.{added_then, added_part, part_end}
+use lib.ListN.{length, length-append}
+use Rattle.std.proofs.lemmas.List.{nil_from_length}
+use Rattle.std.specs.Slice.Iter.{chunks_rest}
+use Rattle.fletcher.proofs.Laws.{added_then, added_block}
 use Rattle.fletcher.proofs.add.Goals as goal
 
-pub loop-at-init : goal.loop-at-init
-loop-at-init c = (search rules, search rules, λ r left. left)
-
-pub add_block-sums-requires : goal.add_block-sums-requires
-add_block-sums-requires c = (simp (length-take, length-drop) (omega arith), simp (length-take, length-drop) (omega arith), search rules)
-
-pub loop-at-preserved : goal.loop-at-preserved
-loop-at-preserved c = let before = c.loop-at in
-    let whole : (before.at + c.block_length.result - before.at) % 4 ≡ 0 = omega arith in
-    (search rules, search rules, λ r left. before.invariant.2 r (added_part _ _ _ _ _ r whole (search rules) (search rules) c.add_block-sums.ensures left))
-
-pub add_rest-requires : goal.add_rest-requires
-add_rest-requires c = (simp (length-take, length-drop) (omega arith), search rules)
+pub loop-block-preserved : goal.loop-block-preserved
+loop-block-preserved c =
+    let i = c.loop-block.invariant in
+    let s = c.in-Some.ensures.steps in
+    let block = c.in-Some.block.now in
+    let sum = ap length s.1.0 ∙ length-append block (chunks_rest c.next.new.self) in (
+      s.0 ∙ i.0,
+      omega (arith, sum, s.1.1, i.0, i.1),
+      c.add_block-sums.ensures.fits,
+      λ r left. i.3 r (added_block _ block _ _ _ _ r s.1.0 (omega (arith, s.1.1, i.0, i.1)) c.add_block-sums.ensures left),
+    )
 
 pub returns : goal.returns
-returns c = added_then [] _ _ _ _ refl c.reduced-sums.ensures
-    (c.loop-at.invariant.2 _ (rw part_end at c.add_rest.ensures))
+returns c =
+    let i = c.loop-block.invariant in
+    let none = nil_from_length _ c.in-None.ensures.steps.1.0 in
+    added_then [] _ _ _ _ refl c.reduced-sums.ensures (i.3 _ (rw none c.add_rest.ensures))

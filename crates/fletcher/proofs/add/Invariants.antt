@@ -1,11 +1,14 @@
-use Prim.Native.Nat.{◌-◌, ◌≤◌}
-use lib.ListN.{length, drop}
+use mathlib.Core.Path.{◌≡◌}
+use mathlib.Core.List.{◌++◌}
+use Prim.Native.Nat.{◌%◌}
+use lib.ListN.{length}
+use Rattle.std.specs.Slice.Iter.{chunks_rest, chunks_size}
 use Rattle.fletcher.specs.declared.Sums.{Sums}
 use Rattle.fletcher.specs.clauses.Pieces.{Added, Reduced}
 use Rattle.fletcher.proofs.add.Given as goal
 
-abbrev pub invariant-loop-at : goal.invariant-loop-at
-invariant-loop-at l = (l.at ≤ length l.piece) × Reduced l.sums × ((r : Sums) → Added (drop l.at l.piece) l.sums r → Added l.piece l.initial.sums r)
-
-abbrev pub decreases-loop-at : goal.decreases-loop-at
-decreases-loop-at l = length l.piece - l.at
+abbrev pub invariant-loop-block : goal.invariant-loop-block
+invariant-loop-block l = (chunks_size l.block-iterator ≡ 4096)
+    × (length (chunks_rest l.block-iterator) % 16 ≡ 0)
+    × Reduced l.sums
+    × ((r : Sums) → Added (chunks_rest l.block-iterator ++ l.rest) l.sums r → Added l.piece l.initial.sums r)

@@ -1,10 +1,7 @@
 use borrow.Author.Rules.{rules}
 use mathlib.Core.Path.{refl}
-use Rattle.fletcher.proofs.Laws.{half_start, half_more, half_done, added_run}
+use Rattle.fletcher.proofs.Laws.{half_more, half_done, added_run}
 use Rattle.fletcher.proofs.add_rest.Goals as goal
-
-pub loop-at-init : goal.loop-at-init
-loop-at-init c = (search rules, half_start _ _ (search rules))
 
 pub loop-at-preserved : goal.loop-at-preserved
 loop-at-preserved c = (search rules, half_more _ _ _ _ _ _ refl (search rules) (search rules) c.loop-at.invariant.1 c.plus-sums.ensures)

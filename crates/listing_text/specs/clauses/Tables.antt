@@ -1,13 +1,9 @@
 -- A table of texts in one list of bytes: rows, each with a newline behind it.
-use Rattle.std.specs.Prelude.{ℕ, zero, suc, ◌+◌, ◌-◌, List, [], ◌∷◌, take, ◌==◌}
+use Rattle.std.specs.Prelude.{ℕ, zero, suc, ◌+◌, List, [], ◌∷◌, take, ◌==◌}
 use Rattle.fields.specs.Choice.{pick}
 
 abbrev pub newline : ℕ
 newline = 10
-
--- how many rows are left to pass after a byte
-unfoldable pub left_after : ℕ → ℕ → ℕ
-left_after left c = pick (c == newline) (left - 1) left
 
 -- what follows the first row, and the first k
 unfoldable pub past_row : List ℕ → List ℕ

@@ -1,12 +1,12 @@
 -- The lists that the code reads in place: what they hold, and what a test or a read of one answers.
-use Rattle.std.specs.Prelude.{List, [], ◌∷◌, ℕ, zero, suc, ◌+◌, ◌*◌}
+use Rattle.std.specs.Prelude.{List, [], ◌∷◌, ℕ, zero, suc, ◌+◌, ◌*◌, Result}
 use Rattle.fields.specs.clauses.Numbers.{NumberAt}
 use Rattle.fields.specs.Fields.{num}
 use Rattle.blocks.specs.clauses.Answers.{there_as, Always}
 use Rattle.blocks.specs.clauses.Images.{Lent, blocks_in}
 use Rattle.blocks.specs.declared.Address.{Address}
 use Rattle.blocks.specs.declared.Container.{Container}
-use Rattle.blocks.specs.declared.Presence.{Presence}
+use Rattle.blocks.specs.declared.Refusal.{Refusal}
 use Rattle.manager.specs.Manager.{list_from, pool_indices, pool_bitmaps, pool_indices_at, pool_ring_blocks, free_next_at, free_next, listed_at, listed_count, address_count, addresses_at}
 use Rattle.manager.specs.Chunks.{chunk_at, chunk_length, chunk_count, chunks_at, chunks_of}
 use Rattle.manager.specs.clauses.Place.{placed}
@@ -27,18 +27,18 @@ records b zero e = []
 records b (suc left) e = chunk_at b e ∷ records b left (e + chunk_length)
 
 -- n fields of w bytes from off on: all of them, where they may be read whole
-abbrev pub FieldsSeen : ℕ → List ℕ → ℕ → ℕ → Presence → Type 0
+abbrev pub FieldsSeen : ℕ → List ℕ → ℕ → ℕ → Result (Unit {0}) Refusal → Type 0
 FieldsSeen w sm n off r = Always (there_as (values w sm n off) r) (list_from w sm n off)
 
 -- a list of ring indices, whole, by where its count and its offset stand
-abbrev pub IndexList : List ℕ → ℕ → ℕ → Presence → Type 0
+abbrev pub IndexList : List ℕ → ℕ → ℕ → Result (Unit {0}) Refusal → Type 0
 IndexList sm counted offset r = FieldsSeen 2 sm (num 4 sm counted) (num 4 sm offset) r
 
 -- the indices of the pool's bitmap blocks, whole; the table of the ring's free list; and an index of either
-abbrev pub IndicesSeen : List ℕ → Presence → Type 0
+abbrev pub IndicesSeen : List ℕ → Result (Unit {0}) Refusal → Type 0
 IndicesSeen sm r = Always (there_as (values 2 sm (pool_bitmaps sm) (pool_indices_at sm)) r) (pool_indices sm)
 
-abbrev pub FreeNextSeen : List ℕ → Presence → Type 0
+abbrev pub FreeNextSeen : List ℕ → Result (Unit {0}) Refusal → Type 0
 FreeNextSeen sm r = Always (there_as (values 2 sm (pool_ring_blocks sm) (free_next_at sm)) r) (free_next sm)
 
 abbrev pub IndexRead : List ℕ → ℕ → ℕ → ℕ → Type 0
@@ -60,11 +60,11 @@ abbrev pub addresses_in : List ℕ → Address → AddressList
 addresses_in b a = record { holder = InBlock a; at = addresses_at; count = address_count b }
 
 -- a list of addresses, whole, and one of them
-abbrev pub AddressesSeen : Lent → Container → AddressList → Presence → Type 0
+abbrev pub AddressesSeen : Lent → Container → AddressList → Result (Unit {0}) Refusal → Type 0
 AddressesSeen image c l r = FieldsSeen 8 (held_on image c l.holder) l.count l.at r
 
 abbrev pub AddressRead : Lent → Container → AddressList → ℕ → ℕ → Type 0
 AddressRead image c l i r = NumberAt 8 (held_on image c l.holder) (l.at + 8 * i) r
 
-abbrev pub ChunksSeen : List ℕ → Presence → Type 0
+abbrev pub ChunksSeen : List ℕ → Result (Unit {0}) Refusal → Type 0
 ChunksSeen b r = Always (there_as (records b (chunk_count b) chunks_at) r) (chunks_of b)

@@ -1,49 +1,43 @@
 -- The loader's steps, each as one function of the code makes it.
-use Rattle.std.specs.Prelude.{◌≡◌, List, [], ◌++◌, ℕ, zero, suc, ◌+◌, ◌%◌, ◌≤◌, ◌<◌, length, take, drop}
-use Rattle.blocks.specs.Reads.{Outcome, refused, run}
-use Rattle.blocks.specs.clauses.Images.{Holds}
+use Rattle.std.specs.Prelude.{◌≡◌, List, [], ◌++◌, ℕ, zero, suc, ◌+◌, ◌-◌, ◌%◌, ◌≤◌, ◌<◌, leb, length, take, drop, Result}
+use Rattle.blocks.specs.Reads.{Reads, done, ◌>>=◌, need, run}
+use Rattle.blocks.specs.Blocks.{read_raw, sum}
 use Rattle.blocks.specs.clauses.Answers.{there_as}
+use Rattle.blocks.specs.clauses.Images.{Holds}
 use Rattle.blocks.specs.declared.Container.{Container}
-use Rattle.blocks.specs.declared.Presence.{Presence}
-use Rattle.blocks.specs.declared.Presence.TheVariants as presence
-use Rattle.checkpoint.specs.declared.Mapping.{Mapping}
-use Rattle.manager.specs.Manager.{manager_from, blocks_for}
-use Rattle.manager.specs.clauses.Place.{place_of, address_in}
+use Rattle.blocks.specs.declared.Refusal.{Refusal}
+use Rattle.blocks.specs.declared.Refusal.TheVariants.{Overflow}
+use Rattle.manager.specs.Manager.{blocks_for}
+use Rattle.manager.specs.clauses.Place.{ring_index, address_in}
 use Rattle.manager.specs.declared.Manager.{Manager}
 
--- a test's refusal, or what follows where there is none
-abbrev pub following : {A : Type 0} → Presence → Outcome A → Outcome A
-following presence.There o = o
-following (presence.Refused r) o = refused r
+-- blocks read one after another, each by its pass: left of them from number i on, after those found
+unfoldable pub read_each : (ℕ → Reads (List ℕ)) → ℕ → ℕ → List ℕ → Reads (List ℕ)
+read_each read zero i found = done found
+read_each read (suc left) i found = read i >>= λ b. read_each read left (i + 1) (found ++ b)
 
--- what holds where a test passed; of a refusal nothing is said
-abbrev pub WhereThere : Presence → Type 0 → Type 0
-WhereThere presence.There P = P
-WhereThere (presence.Refused r) P = Unit {0}
+-- the first n of them, one after another
+unfoldable pub joined : (ℕ → List ℕ) → ℕ → List ℕ
+joined blocks zero = []
+joined blocks (suc n) = joined blocks n ++ blocks n
 
--- the first n blocks, one after another
-unfoldable pub joined : (ℕ → List ℕ) → Manager → ℕ → List ℕ
-joined f m zero = []
-joined f m (suc n) = joined f m n ++ f (address_in m n)
+-- a manager's block i: how the definition reads it, and which one it is
+unfoldable pub read_block : Container → Manager → ℕ → Reads (List ℕ)
+read_block c m i = do
+  _ ← need (leb m.base m.at.0) Overflow
+  _ ← sum (m.at.0 - m.base) i
+  a ← sum m.base (ring_index m i)
+  read_raw c (record { 0 = a })
 
--- block i: its refusal, or what the blocks after it come to
-abbrev pub BlockGoes : (ℕ → List ℕ) → Container → List ℕ → Mapping → ℕ → Presence → Type 0
-BlockGoes f c sb mp i r =
-    (left : ℕ) (found : List ℕ)
-    → run f (manager_from c sb mp.address.0 (suc left) i found)
-    ≡ following r (run f (manager_from c sb mp.address.0 left (i + 1) (found ++ f (address_in (place_of sb mp) i))))
+abbrev pub ring_block : (ℕ → List ℕ) → Manager → ℕ → List ℕ
+ring_block f m i = f (address_in m i)
 
-pub record BlockSeen (c : Container) (m : Manager) (i : ℕ) (r : Presence) : Type 0 where
-  pub goes : (f : ℕ → List ℕ) (sb : List ℕ) (mp : Mapping) → m ≡ place_of sb mp → BlockGoes f c sb mp i r
-  pub inside : WhereThere r (address_in m i < c.count)
+-- whether it, or the first n, may be read
+abbrev pub BlockSeen : Container → Manager → ℕ → Result (Unit {0}) Refusal → Type 0
+BlockSeen c m i r = (f : ℕ → List ℕ) → there_as (ring_block f m i) r ≡ run f (read_block c m i)
 
--- n blocks
-abbrev pub BlocksGo : (ℕ → List ℕ) → Container → List ℕ → Mapping → ℕ → Presence → Type 0
-BlocksGo f c sb mp n r = there_as (joined f (place_of sb mp) n) r ≡ run f (manager_from c sb mp.address.0 n 0 [])
-
-pub record BlocksSeen (c : Container) (m : Manager) (n : ℕ) (r : Presence) : Type 0 where
-  pub goes : (f : ℕ → List ℕ) (sb : List ℕ) (mp : Mapping) → m ≡ place_of sb mp → BlocksGo f c sb mp n r
-  pub inside : WhereThere r ((i : ℕ) → i < n → address_in m i < c.count)
+abbrev pub BlocksSeen : Container → Manager → ℕ → Result (Unit {0}) Refusal → Type 0
+BlocksSeen c m n r = (f : ℕ → List ℕ) → there_as (joined (ring_block f m) n) r ≡ run f (read_each (read_block c m) n 0 [])
 
 -- an image that has every block of a manager
 pub record Stands (image : List ℕ) (c : Container) (m : Manager) : Type 0 where

@@ -1,9 +1,7 @@
 -- What the code finds out from the lengths alone, whatever the bytes are.
-use Rattle.std.specs.Prelude.{Bool, true, false, List, ◌≡◌, ℕ, ◌%◌, ◌^◌, ◌≤◌, ◌<◌, eqb, length}
+use Rattle.std.specs.Prelude.{Bool, true, false, List, Option, Some, None, ◌≡◌, ℕ, ◌%◌, ◌^◌, ◌≤◌, ◌<◌, eqb, length}
 use Rattle.fields.specs.Choice.{pick}
 use Rattle.nodes.specs.Node.{ghost_offset}
-use Rattle.node_build.specs.declared.Measure.{Measure}
-use Rattle.node_build.specs.declared.Measure.TheVariants.{There, Outside}
 use Rattle.node_build.specs.declared.Measured.{Measured}
 use Rattle.node_build.specs.Build.{keys, values}
 use Rattle.node_build.specs.Asked.{ghost_length, entries_in, takes, well_formed}
@@ -29,11 +27,11 @@ pub record Measures (packed : Bool) (lengths : List ℕ) (r : Measured) : Type 0
   pub values_are : (parts : List ℕ) → takes lengths ≤ length parts → r.values ≡ length (values packed (entries_in parts lengths))
 
 -- of lengths beside so many bytes
-abbrev pub Weighs : Bool → List ℕ → ℕ → Measure → Type 0
-Weighs packed lengths room (There m) = (takes lengths ≤ room) × Measures packed lengths m
-Weighs packed lengths room Outside = room < takes lengths
+abbrev pub Weighs : Bool → List ℕ → ℕ → Option Measured → Type 0
+Weighs packed lengths room (Some m) = (takes lengths ≤ room) × Measures packed lengths m
+Weighs packed lengths room None = room < takes lengths
 
 -- of all that is handed over
-abbrev pub WeighsAll : Bool → List ℕ → List ℕ → List ℕ → Measure → Type 0
-WeighsAll packed info parts lengths (There m) = (well_formed info parts lengths ≡ true) × Measures packed lengths m
-WeighsAll packed info parts lengths Outside = well_formed info parts lengths ≡ false
+abbrev pub WeighsAll : Bool → List ℕ → List ℕ → List ℕ → Option Measured → Type 0
+WeighsAll packed info parts lengths (Some m) = (well_formed info parts lengths ≡ true) × Measures packed lengths m
+WeighsAll packed info parts lengths None = well_formed info parts lengths ≡ false

@@ -6,6 +6,7 @@ use Rattle.node_build.specs.declared.Plan.{Plan}
 use Rattle.node_build.specs.declared.Measured.{Measured}
 use Rattle.node_build.specs.declared.NodeHeader.{NodeHeader}
 use Rattle.node_build.specs.declared.Sizes.{Sizes}
+use Rattle.node_build.specs.declared.Asked.{Asked}
 use Rattle.node_build.specs.Build.{keys, values, slot_width, slots_from, table, object_header, shape, areas, fits, unsealed, is_packed}
 use Rattle.node_build.specs.Asked.{Handed, entries_in, takes, well_formed, request_of}
 use Rattle.node_build.specs.clauses.Lengths.{Entries, Measures}
@@ -18,6 +19,9 @@ Fills node at x r = Wrote x at (bytes_lent node) node.exit.now r
 -- what is handed over
 abbrev pub handed : NodeHeader → Sizes → List ℕ → List ℕ → List ℕ → Handed
 handed h z info parts lengths = record { header = h; sizes = z; info = info; parts = parts; lengths = lengths }
+
+abbrev pub handed_by : Asked → Handed
+handed_by r = handed r.header r.sizes r.info.now r.parts.now r.lengths.now
 
 -- slots and table are written by the lengths alone: whatever the bytes are, if there are as many as the lengths say
 abbrev pub SlotsFill : LentMut → ℕ → Sizes → Bool → Lent → ℕ → Type 0

@@ -1,9 +1,12 @@
-use Rattle.pool.proofs.Laws.{block_past, block_there}
-use Rattle.std.proofs.Common.{sym, ◌∙◌}
+use Rattle.std.proofs.Common.{arith}
+use Rattle.std.proofs.lemmas.Bool.Decides.{nat_tests}
+use Rattle.pool.specs.clauses.Place.{bitmap_block, block_in}
 use Rattle.pool.proofs.bitmap_block.Goals as goal
 
 pub returns-then-pool-index : goal.returns-then-pool-index
-returns-then-pool-index c = c.part_of.ensures ∙ sym (block_past _ _ _ _ c.if-pool-index.true)
+unfolding block_in
+returns-then-pool-index c = grind (arith, nat_tests)
 
 pub returns : goal.returns
-returns c = block_there _ _ _ _ c.if-pool-index.false _ c.index_at-at.ensures.is _ c.block_after.ensures
+unfolding block_in bitmap_block
+returns c = grind (arith, nat_tests)

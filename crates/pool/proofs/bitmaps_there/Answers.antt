@@ -1,15 +1,15 @@
-use Rattle.pool.proofs.LoadLaws.{left_first, left_more, left_refused, left_done}
-use Rattle.std.proofs.Common.{rules}
+use Rattle.std.proofs.Common.{arith}
+use Rattle.manager.proofs.LoadLaws.{left_first, left_more, left_refused, left_done}
 use Rattle.pool.proofs.bitmaps_there.Goals as goal
 
 pub loop-i-init : goal.loop-i-init
-loop-i-init c = (search rules, left_first _ _ _ _ 0)
+loop-i-init c = left_first _ _ _ _
 
-pub returns-in-Refused : goal.returns-in-Refused
-returns-in-Refused c = left_refused _ _ c.args.pool _ _ c.loop-i-test.true c.loop-i.invariant.1 _ c.bitmap_there-seen.ensures _ c.in-Refused.is
+pub returns-in_err-bitmap_there : goal.returns-in_err-bitmap_there
+returns-in_err-bitmap_there c = left_refused c.loop-i.invariant (omega arith) _ c.bitmap_there.ensures _ c.in_err-bitmap_there.was _ c.from_residual.ensures.1
 
 pub loop-i-preserved : goal.loop-i-preserved
-loop-i-preserved c = (search rules, left_more _ _ c.args.pool _ _ c.loop-i-test.true c.loop-i.invariant.1 _ c.bitmap_there-seen.ensures c.in-There.is)
+loop-i-preserved c = left_more c.loop-i.invariant (omega arith) _ c.bitmap_there.ensures _ c.in_ok-bitmap_there.was
 
 pub returns : goal.returns
-returns c = left_done _ _ c.args.pool _ _ c.loop-i.invariant.0 c.loop-i-test.false c.loop-i.invariant.1
+returns c = left_done c.loop-i.invariant (omega arith) (omega arith)

@@ -1,10 +1,8 @@
-use Rattle.pool.proofs.LoadLaws.{Left}
 use Rattle.blocks.specs.Blocks.{block_of}
-use Rattle.std.proofs.Common.{◌-◌, ◌≤◌}
+use Rattle.manager.proofs.LoadLaws.{Left}
+use Rattle.pool.specs.clauses.Place.{bitmap_block}
+use Rattle.pool.specs.clauses.Load.{read_bitmap}
 use Rattle.pool.proofs.bitmaps_there.Given as goal
 
 abbrev pub invariant-loop-i : goal.invariant-loop-i
-invariant-loop-i l = (l.i ≤ l.bitmaps) × Left (block_of l.image l.container.size) l.container l.pool l.bitmaps l.i
-
-abbrev pub decreases-loop-i : goal.decreases-loop-i
-decreases-loop-i l = l.bitmaps - l.i
+invariant-loop-i l = let f = block_of l.image l.container.size in Left f (read_bitmap f l.container l.pool) (bitmap_block f l.container.size l.pool) l.bitmaps l.i

@@ -1,13 +1,11 @@
-use Rattle.std.proofs.Common.{refl, ◌∙◌, add-zero, rules}
-use Rattle.pool.proofs.Laws.{counted_few, counted_span, counted_done}
+use Rattle.std.proofs.Common.{◌≡◌, ◌+◌, refl, ◌∙◌, add-zero, arith}
+use Rattle.pool.proofs.Laws.{counted_span, counted_done}
 use native.Mathlib.Nat.{sub-zero}
 use Rattle.pool.proofs.unused.Goals as goal
 
-pub loop-i-init : goal.loop-i-init
-loop-i-init c = (search rules, search rules, refl)
-
 pub loop-i-preserved : goal.loop-i-preserved
-loop-i-preserved c = (search rules, counted_few _ _ _ _ _ _ _ _ c.loop-i.invariant.2 _ (search rules) (search rules) _ c.unused_piece-n.ensures, counted_span _ _ _ _ _ _ _ _ c.loop-i.invariant.2 _ (search rules) (search rules) _ c.unused_piece-n.ensures)
+loop-i-preserved c = let end : c.piece_end.result ≡ c.loop-i.i + 32768 = omega arith in
+    rw (← end) (counted_span c.loop-i.invariant _ (omega arith) (omega arith) _ c.unused_piece-n.ensures)
 
 pub returns : goal.returns
-returns c = counted_done _ _ _ _ _ _ _ _ c.loop-i.invariant.2 c.loop-i-test.false ∙ rw (sub-zero, add-zero) refl
+returns c = counted_done c.loop-i.invariant c.loop-i-test.false ∙ rw (sub-zero, add-zero) refl

@@ -1,11 +1,7 @@
-use Rattle.std.proofs.Common.{◌-◌, ◌≤◌}
 use Rattle.pool.proofs.Laws.{Counted}
 use Rattle.pool.specs.clauses.Place.{pool_in}
 use Rattle.blocks.specs.Blocks.{block_of}
 use Rattle.pool.proofs.unused_byte.Given as goal
 
 abbrev pub invariant-loop-i : goal.invariant-loop-i
-invariant-loop-i l = (l.first ≤ l.i) × (l.i ≤ l.end) × (l.found ≤ l.i) × Counted l.container (pool_in (block_of l.image l.container.size) l.container.size l.pool) l.map l.first l.end l.before l.i l.found
-
-abbrev pub decreases-loop-i : goal.decreases-loop-i
-decreases-loop-i l = l.end - l.i
+invariant-loop-i l = Counted l.container (pool_in (block_of l.image l.container.size) l.container.size l.pool) l.map l.first l.end l.before l.i l.found

@@ -5,7 +5,7 @@ use Rattle.blocks.specs.Blocks.{block_of}
 use Rattle.pool.proofs.unused_piece.Given as goal
 
 abbrev pub invariant-loop-i : goal.invariant-loop-i
-invariant-loop-i l = (l.first ≤ l.i) × (l.i ≤ l.end) × (l.n ≤ l.i) × Counted l.container (pool_in (block_of l.image l.container.size) l.container.size l.pool) l.map l.first l.end l.before l.i l.n
+invariant-loop-i l = (l.i ≤ l.end) × Counted l.container (pool_in (block_of l.image l.container.size) l.container.size l.pool) l.map l.first l.end l.before l.i l.n
 
 abbrev pub decreases-loop-i : goal.decreases-loop-i
 decreases-loop-i l = l.end - l.i

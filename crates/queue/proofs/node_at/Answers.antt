@@ -1,9 +1,9 @@
-use Rattle.blocks.specs.clauses.Answers.{there_as}
-use mathlib.Core.Path.{sym, ap, ◌∙◌}
+use Rattle.std.proofs.Common.{sym, ap, ◌∙◌}
+use Rattle.blocks.specs.Reads.{given}
+use Rattle.blocks.proofs.Laws.{is_given}
+use Rattle.nodes.proofs.Laws.{node_given}
 use Rattle.queue.proofs.node_at.Goals as goal
 
-pub returns-in-Refused : goal.returns-in-Refused
-returns-in-Refused c = sym (ap (there_as _) c.in-Refused.is) ∙ c.read_node-seen.ensures
-
-pub returns-in-There : goal.returns-in-There
-returns-in-There c = sym (ap (there_as _) c.in-There.is) ∙ c.read_node-seen.ensures
+pub returns : goal.returns
+returns c = let read = is_given _ _ _ _ c.read_node.ensures _ c.in_ok-read_node.was in
+    sym (read ∙ ap given (node_given _ _ _ _ read))

@@ -1,9 +1,12 @@
-use Rattle.queue.proofs.Laws.{unmapped, mapped}
-use mathlib.Core.Path.{sym, ◌∙◌}
+use Rattle.std.proofs.Common.{arith}
+use Rattle.blocks.specs.Reads.{run}
+use Rattle.queue.specs.Queue.{node_by}
 use Rattle.queue.proofs.node_by.Goals as goal
 
-pub returns-in-Nowhere : goal.returns-in-Nowhere
-returns-in-Nowhere c = sym (unmapped _ _ _ (sym c.lookup-mapped.ensures ∙ c.in-Nowhere.is))
+pub returns-in_err-mapping : goal.returns-in_err-mapping
+unfolding node_by run
+returns-in_err-mapping c = grind (arith, c.in_err-mapping.was)
 
-pub returns-in-To : goal.returns-in-To
-returns-in-To c = c.node_at.ensures ∙ sym (mapped _ _ _ _ (sym c.lookup-mapped.ensures ∙ c.in-To.is))
+pub returns : goal.returns
+unfolding node_by
+returns c = grind (arith, c.in_ok-mapping.was)

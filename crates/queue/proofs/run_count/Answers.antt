@@ -1,9 +1,12 @@
-use Rattle.queue.proofs.Laws.{count_ghost, count_field}
-use mathlib.Core.Path.{sym, ◌∙◌}
+use Rattle.std.proofs.Common.{rules}
+use Rattle.blocks.specs.Reads.{run}
+use Rattle.queue.specs.Queue.{run_count}
 use Rattle.queue.proofs.run_count.Goals as goal
 
-pub returns-in-Ghost : goal.returns-in-Ghost
-returns-in-Ghost c = λ f. sym (count_ghost f _ _ c.in-Ghost.is)
+pub returns-in-None : goal.returns-in-None
+unfolding run_count run
+returns-in-None c = λ f. search rules
 
-pub returns-in-At : goal.returns-in-At
-returns-in-At c = λ f. c.field_in.ensures f ∙ sym (count_field f _ _ _ c.in-At.is)
+pub returns-in-Some : goal.returns-in-Some
+unfolding run_count
+returns-in-Some c = λ f. search (rules, c.field_in.ensures f)

@@ -1,13 +1,17 @@
-use Rattle.queue.proofs.Laws.{run_no_start, run_no_count, run_given}
-use Rattle.blocks.specs.clauses.Answers.{number_as}
-use mathlib.Core.Path.{sym, ap, ◌∙◌}
+use Rattle.std.proofs.Common.{rules}
+use Rattle.blocks.specs.Reads.{run}
+use Rattle.blocks.proofs.Laws.{at_ok, at_err}
+use Rattle.queue.specs.Queue.{run_of}
 use Rattle.queue.proofs.run_of.Goals as goal
 
-pub returns-in-Refused : goal.returns-in-Refused
-returns-in-Refused c = λ f. sym (run_no_start f _ _ (sym (c.field_in-address.ensures f) ∙ ap number_as c.in-Refused.is))
+pub returns-in_err-start : goal.returns-in_err-start
+unfolding run_of
+returns-in_err-start c = λ f. search (rules, at_err, c.field_in.ensures f, c.in_err-start.was)
 
-pub returns-in-Refused-counted : goal.returns-in-Refused-counted
-returns-in-Refused-counted c = λ f. sym (run_no_count f _ _ (sym (c.field_in-address.ensures f) ∙ ap number_as c.in-Given.is) _ (sym (c.run_count-counted.ensures f) ∙ ap number_as c.in-Refused-counted.is))
+pub returns-in_err-count : goal.returns-in_err-count
+unfolding run_of
+returns-in_err-count c = λ f. search (rules, at_ok, at_err, c.field_in.ensures f, c.in_ok-start.was, c.run_count.ensures f, c.in_err-count.was)
 
-pub returns-in-Given-counted : goal.returns-in-Given-counted
-returns-in-Given-counted c = λ f. sym (run_given f _ _ (sym (c.field_in-address.ensures f) ∙ ap number_as c.in-Given.is) _ (sym (c.run_count-counted.ensures f) ∙ ap number_as c.in-Given-counted.is))
+pub returns : goal.returns
+unfolding run_of run
+returns c = λ f. search (rules, at_ok, c.field_in.ensures f, c.in_ok-start.was, c.run_count.ensures f, c.in_ok-count.was)

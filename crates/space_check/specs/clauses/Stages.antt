@@ -1,9 +1,12 @@
 -- The pass as the code takes it: the checkpoint map and the manager's lists are read in place.
+use Rattle.std.specs.Prelude.{Result as Answered}
+use Rattle.blocks.specs.declared.Refusal.{Refusal}
 use Rattle.std.specs.Prelude.{List, ◌≡◌, ℕ, zero, suc, ◌+◌, ◌*◌, ◌%◌, ◌^◌, ◌≤◌, ◌<◌, leb, eqb, length}
 use Rattle.std.specs.Borrow.{Bor}
 use Rattle.fields.specs.Choice.{pick}
 use Rattle.blocks.specs.Reads.{Reads, done, Outcome, given, refused, run, ◌>>=◌}
 use Rattle.blocks.specs.Blocks.{block_of}
+use Rattle.blocks.specs.clauses.Answers.{outcome_by}
 use Rattle.blocks.specs.clauses.Images.{Lent, bytes, blocks_in, Pass, LentMut, bytes_lent}
 use Rattle.blocks.specs.declared.Address.{Address}
 use Rattle.blocks.specs.declared.Container.{Container}
@@ -27,14 +30,10 @@ use Rattle.pool.specs.clauses.Place.{pool_in, pool_on}
 use Rattle.pool.specs.declared.PoolPlace.{PoolPlace}
 use Rattle.audit.specs.declared.Audit.{Audit}
 use Rattle.claims.specs.Claims.{container_superblock, descriptor_area, data_area, internal_pool, object_map, claim}
-use Rattle.claims.specs.declared.Claimed.{Claimed}
 use Rattle.trees.specs.clauses.Read.{NodeRead}
 use Rattle.space_check.specs.Check.{Result, Parts, pool_part, manager_part, load_parts, audit_blocks, audit, claim_areas, claim_mappings_and_volumes, claim_objects, claim_trees, claims, report_of, claim_and_report, audit_and_claim, body, settle, rest, pass}
 use Rattle.space_check.specs.declared.Area.{Area}
 use Rattle.space_check.specs.declared.PartsPlace.{PartsPlace}
-use Rattle.space_check.specs.declared.Passed.{Passed}
-use Rattle.space_check.specs.declared.PartsAnswer.{PartsAnswer}
-use Rattle.space_check.specs.declared.PartsAnswer.TheVariants as parts
 
 -- the superblock of a checkpoint, by its bytes; and a stage of the definition over a checkpoint of an image
 abbrev pub superblock_of : (ℕ → List ℕ) → Checkpoint → List ℕ
@@ -66,12 +65,11 @@ areas_from c sb sm (suc left) kind s = claim c kind (area_of sb sm kind).start (
 abbrev pub parts_in : (ℕ → List ℕ) → Container → PartsPlace → Parts
 parts_in f c x = record { root = x.root; sm = placed f c.size x.pool.manager; pool = pool_in f c.size x.pool }
 
-abbrev pub parts_as : (ℕ → List ℕ) → Container → PartsAnswer → Outcome Parts
-parts_as f c (parts.Given x) = given (parts_in f c x)
-parts_as f c (parts.Refused r) = refused r
+abbrev pub parts_as : (ℕ → List ℕ) → Container → Answered PartsPlace Refusal → Outcome Parts
+parts_as f c r = outcome_by (parts_in f c) r
 
 -- what is loaded is what the definition loads
-abbrev pub Loads : Lent → Container → PartsAnswer → ((ℕ → List ℕ) → Reads Parts) → Type 0
+abbrev pub Loads : Lent → Container → Answered PartsPlace Refusal → ((ℕ → List ℕ) → Reads Parts) → Type 0
 Loads image c r defined = let f = blocks_in image.entry c in parts_as f c r ≡ run f (defined f)
 
 -- the stages of the definition, over a checkpoint of an image and what was loaded by its place
@@ -118,14 +116,14 @@ abbrev pub body_of : Checkpoint → Pass (List ℕ) (Marked Report)
 body_of k f = body k.container (superblock_of f k) (mapped_in f k)
 
 -- a claims' step from a map alone, as a pass over an image and it
-abbrev pub ClaimsOn : Lent → LentMut → Container → Claimed → Pass (List ℕ) (Marked OverlapLog) → Type 0
+abbrev pub ClaimsOn : Lent → LentMut → Container → Answered OverlapLog Refusal → Pass (List ℕ) (Marked OverlapLog) → Type 0
 ClaimsOn image map c r pass =
-    let f = blocks_in image.entry c in Stepped f c.count r.ending (bytes_lent map) map.exit.now r.log (pass f (bytes_lent map))
+    let f = blocks_in image.entry c in Stepped f c.count r (bytes_lent map) map.exit.now (pass f (bytes_lent map))
 
 -- a step that makes a report, over an image and a map
-abbrev pub Passes : Lent → LentMut → Checkpoint → Passed → Pass (List ℕ) (Marked Report) → Type 0
+abbrev pub Passes : Lent → LentMut → Checkpoint → Answered Report Refusal → Pass (List ℕ) (Marked Report) → Type 0
 Passes image map k r pass =
-    let f = blocks_in image.entry k.container in Stepped f k.container.count r.ending (bytes_lent map) map.exit.now r.report (pass f (bytes_lent map))
+    let f = blocks_in image.entry k.container in Stepped f k.container.count r (bytes_lent map) map.exit.now (pass f (bytes_lent map))
 
 -- the root of the object map's tree was read when the map was loaded
 abbrev pub RootRead : Bor (List ℕ) → Checkpoint → PartsPlace → Type 0

@@ -1,8 +1,6 @@
 use mathlib.Core.Path.{refl, sym, ◌∙◌}
 use Prim.Native.Nat.{◌+◌, ◌-◌}
-use native.Mathlib.Nat.{add-zero}
 use native.Mathlib.Omega.{arith}
-use borrow.Author.Rules.{rules}
 use Rattle.totals.specs.clauses.Counting.{first_kind}
 use Rattle.totals.proofs.Laws.{lost_room, after_done, Walked, walked_skip, walked_add, walked_past}
 use Rattle.totals.proofs.lost_in.Goals.{Joined-kind-ne-UNOWNED, then-kind-ne-UNOWNED+then-place-lt-KINDS, then-kind-ne-UNOWNED+else-place-lt-KINDS, else-kind-ne-UNOWNED}
@@ -18,18 +16,15 @@ step c =
       | else-kind-ne-UNOWNED w ↦ walked_skip _ _ _ _ _ more _ kind w.if-kind-ne-UNOWNED.false w.lost-is
     ]
 
-pub loop-i-init : goal.loop-i-init
-loop-i-init c = (search rules, search rules, rw add-zero refl)
-
 pub one_more-requires : goal.one_more-requires
-one_more-requires c = let asked = c in
-    let at = c.loop-i in
+one_more-requires c = let at = c.loop-i in
     let place = c.lost_kind-kind.result - first_kind in
-    omega (arith, lost_room _ _ _ (asked.args.start + at.i) first_kind _ at.lost place at.invariant.2, asked.requires.counts place)
+    omega (arith, lost_room _ _ _ (c.args.start + at.i) first_kind _ at.lost place at.invariant.1, c.requires.counts place)
 
 pub loop-i-preserved : goal.loop-i-preserved
 loop-i-preserved c = let inv = c.loop-i.invariant in
-    (search rules, (step (goal.at.loop-i-preserved c).Joined-kind-ne-UNOWNED).long ∙ inv.1, (step (goal.at.loop-i-preserved c).Joined-kind-ne-UNOWNED).left ∙ inv.2)
+    let walked = step (goal.at.loop-i-preserved c).Joined-kind-ne-UNOWNED in
+    (walked.long ∙ inv.0, walked.left ∙ inv.1)
 
 pub returns : goal.returns
-returns c = sym (after_done _ _ _ first_kind _ c.loop-i-test.false) ∙ c.loop-i.invariant.2
+returns c = sym (after_done _ _ _ first_kind _ c.loop-i-test.false) ∙ c.loop-i.invariant.1

@@ -1,13 +1,11 @@
 -- Nodes that were read before: a scan takes them as they are.
-use Rattle.std.specs.Prelude.{false, List, ◌≡◌, ℕ, zero, suc, ◌<◌}
+use Rattle.std.specs.Prelude.{true, false, List, ◌≡◌, ℕ, zero, suc, ◌<◌}
 use Rattle.blocks.specs.Reads.{given, run}
 use Rattle.blocks.specs.declared.Container.{Container}
 use Rattle.nodes.specs.Node.{is_leaf, key_count, read_node}
 use Rattle.nodes.specs.declared.Description.{Description}
 use Rattle.trees.specs.clauses.Walks.{pointer_of}
-use Rattle.trees.specs.declared.Purpose.{Purpose}
-use Rattle.trees.specs.declared.Purpose.TheVariants.{Mappings}
-use Rattle.trees.specs.declared.Tree.{Tree}
+use Rattle.trees.specs.clauses.Visits.{Plan}
 
 -- the node at a verifies and can be taken apart
 abbrev pub NodeRead : (ℕ → List ℕ) → Container → ℕ → Type 0
@@ -24,13 +22,9 @@ module _ (f : ℕ → List ℕ) (c : Container) (d : Description) where
     pub levels : ℕ
     pub below : ReadBelow levels b
 
--- the object map's tree was walked before it is scanned; a queue's nodes are read as its scan comes to them
-abbrev pub WalkedFor : Purpose → Type 0 → Type 0
-WalkedFor purpose claim = purpose ≡ Mappings → claim
+-- what a scan of a tree that was walked asks of the node whose bytes are b, and of the child that entry i of it names; other nodes are read as the scan comes to them
+abbrev pub ScanRead : {F : Type 0} → (ℕ → List ℕ) → Container → Plan F → Description → List ℕ → Type 0
+ScanRead f c p d b = p.walked ≡ true → TreeRead f c d b
 
--- what a scan asks of the node whose bytes are b, and of the child that entry i of it names
-abbrev pub ScanRead : (ℕ → List ℕ) → Tree → List ℕ → Type 0
-ScanRead f t b = WalkedFor t.purpose (TreeRead f t.checkpoint.container t.description b)
-
-abbrev pub ChildRead : (ℕ → List ℕ) → Tree → List ℕ → ℕ → Type 0
-ChildRead f t b i = WalkedFor t.purpose ((a : ℕ) → run f (pointer_of t.description b i) ≡ given a → NodeRead f t.checkpoint.container a)
+abbrev pub ChildRead : {F : Type 0} → (ℕ → List ℕ) → Container → Plan F → Description → List ℕ → ℕ → Type 0
+ChildRead f c p d b i = p.walked ≡ true → (a : ℕ) → run f (pointer_of d b i) ≡ given a → NodeRead f c a

@@ -1,10 +1,7 @@
-use Rattle.writers.proofs.Laws.{Writing}
 use Rattle.writers.specs.Bytes.{le_bytes}
-use Prim.Native.Nat.{◌+◌, ◌-◌, ◌≤◌}
+use Rattle.std.specs.Prelude.{◌≡◌, ◌++◌, length, take}
+use Prim.Native.Nat.{◌-◌}
 use Rattle.writers.proofs.put.Given as goal
 
-abbrev pub invariant-loop-k : goal.invariant-loop-k
-invariant-loop-k l = (l.k ≤ l.width) × Writing (le_bytes (l.width - l.k) l.rest) (l.at + l.k) l.out (le_bytes l.width l.number) l.at l.initial.out
-
-abbrev pub decreases-loop-k : goal.decreases-loop-k
-decreases-loop-k l = l.width - l.k
+abbrev pub invariant-loop-byte : goal.invariant-loop-byte
+invariant-loop-byte l = take l.byte-index l.byte-items ++ le_bytes (length l.byte-items - l.byte-index) l.rest ≡ le_bytes l.width l.number

@@ -1,6 +1,5 @@
+use Rattle.std.proofs.Common.{arith, rules}
 use Rattle.audit.proofs.WholeLaws.{whole_few, marked_then}
-use native.Mathlib.Omega.{arith}
-use borrow.Author.Rules.{rules}
 use Rattle.audit.proofs.bitmap.mark_bits.Goals as goal
 
 pub mark_rest-requires : goal.mark_rest-requires

@@ -1,20 +1,21 @@
-use Rattle.blocks.specs.Reads.{given}
-use Rattle.audit.proofs.BitmapLaws.{bitmap_short, bitmap_there}
-use Rattle.audit.proofs.Laws.{answer_refused}
-use Rattle.audit.specs.Audit.{read_bitmap}
-use Rattle.blocks.proofs.Laws.{then_refused}
-use Rattle.blocks.specs.clauses.Answers.{there_as}
-use borrow.Author.Tests.{not-true, not-false}
-use mathlib.Core.Path.{sym, ap, ◌∙◌}
-use mathlib.Core.Bool.{not}
+use Rattle.std.proofs.Common.{sym, ◌∙◌}
+use Rattle.blocks.proofs.Laws.{is_given}
+use Rattle.report.proofs.StepLaws.{read_then, read_stop, need_then, need_stop}
+use Rattle.audit.specs.Audit.{read_bitmap, tally_bitmap}
+use Rattle.audit.proofs.Laws.{raw_below, entered}
 use Rattle.audit.proofs.bitmap.read_bitmap.Goals as goal
 
-pub returns-then-not-has_bits : goal.returns-then-not-has_bits
-returns-then-not-has_bits c = answer_refused _ _ _ _ _ c.refused-then-not-has_bits.ensures (bitmap_short _ _ _ _ _ _ (sym (c.raw_block-seen.ensures _) ∙ ap (there_as _) c.in-There.is ∙ ap given (sym c.block-bits.ensures)) (sym c.has_bits.ensures ∙ not-true _ (ap not c.if-not-has_bits.true)))
-
-pub returns-in-Refused : goal.returns-in-Refused
+pub returns-in_err-bits : goal.returns-in_err-bits
 unfolding read_bitmap
-returns-in-Refused c = answer_refused _ _ _ _ _ c.refused.ensures (then_refused _ _ _ _ (sym (c.raw_block-seen.ensures _) ∙ ap (there_as _) c.in-Refused.is))
+returns-in_err-bits c = read_stop _ _ _ c.raw_block.ensures.block _ c.in_err-bits.was c.from_residual.ensures.1
 
-pub returns-else-not-has_bits : goal.returns-else-not-has_bits
-returns-else-not-has_bits c = bitmap_there _ _ _ _ _ _ (sym (c.raw_block-seen.ensures _) ∙ ap (there_as _) c.in-There.is ∙ ap given (sym c.block-bits.ensures)) (sym c.has_bits.ensures ∙ not-false _ (ap not c.if-not-has_bits.false)) c.use_block.ensures (c.tally_bitmap.ensures _)
+pub returns-then-not-has_bits : goal.returns-then-not-has_bits
+unfolding read_bitmap
+returns-then-not-has_bits c = read_then _ _ _ c.raw_block.ensures.block _ c.in_ok-bits.was (need_stop _ _ _ (sym c.has_bits.ensures ∙ c.if-not-has_bits.true))
+
+pub returns : goal.returns
+unfolding read_bitmap
+returns c =
+    let below = raw_below _ _ _ _ (is_given _ _ _ _ c.raw_block.ensures.block _ c.in_ok-bits.was) in
+    let tallied = entered (tally_bitmap _ _ _) (c.tally_bitmap.ensures _) c.use_block.ensures below in
+    read_then _ _ _ c.raw_block.ensures.block _ c.in_ok-bits.was (need_then _ _ _ (sym c.has_bits.ensures ∙ c.if-not-has_bits.false) tallied)

@@ -1,13 +1,17 @@
-use Rattle.audit.proofs.BitmapLaws.{tally_refused, tally_wrong, tally_done}
-use Rattle.blocks.specs.clauses.Answers.{number_as}
-use mathlib.Core.Path.{sym, ap, ◌∙◌}
+use Rattle.std.proofs.Common.{refl}
+use Rattle.blocks.specs.Reads.{run}
+use Rattle.report.proofs.StepLaws.{stays_ok, read_then, read_stop}
+use Rattle.audit.specs.Audit.{tally}
 use Rattle.audit.proofs.bitmap.tally.Goals as goal
 
-pub returns-in-Refused : goal.returns-in-Refused
-returns-in-Refused c = λ f count map. tally_refused f count map _ _ _ _ _ (sym (c.add-free.ensures f) ∙ ap number_as c.in-Refused.is) c.refused.ensures
+pub returns-in_err-free : goal.returns-in_err-free
+unfolding tally
+returns-in_err-free c = λ f count map. read_stop _ _ _ (c.add.ensures f) _ c.in_err-free.was c.from_residual.ensures.1
 
-pub returns-in-Refused-wrong : goal.returns-in-Refused-wrong
-returns-in-Refused-wrong c = λ f count map. tally_wrong f count map _ _ _ _ _ _ (sym (c.add-free.ensures f) ∙ ap number_as c.in-Given.is) c.differing.ensures _ (sym (c.add-wrong.ensures f) ∙ ap number_as c.in-Refused-wrong.is) c.refused-in-Refused-wrong.ensures
+pub returns-in_err-wrong : goal.returns-in_err-wrong
+unfolding tally
+returns-in_err-wrong c = λ f count map. read_then _ _ _ (c.add.ensures f) _ c.in_ok-free.was (rw (← c.differing.ensures) (read_stop _ _ _ (c.add-2.ensures f) _ c.in_err-wrong.was c.from_residual-in_err-wrong.ensures.1))
 
-pub returns-in-Given-wrong : goal.returns-in-Given-wrong
-returns-in-Given-wrong c = λ f count map. tally_done f count map _ _ _ _ _ _ (sym (c.add-free.ensures f) ∙ ap number_as c.in-Given.is) c.differing.ensures _ _ (sym (c.add-wrong.ensures f) ∙ ap number_as c.in-Given-wrong.is) c.with_counts.ensures c.done.ensures
+pub returns : goal.returns
+unfolding run tally
+returns c = λ f count map. read_then _ _ _ (c.add.ensures f) _ c.in_ok-free.was (rw (← c.differing.ensures, c.with_counts.ensures) (read_then _ _ _ (c.add-2.ensures f) _ c.in_ok-wrong.was (stays_ok (λ x. x) count map _ refl)))

@@ -1,14 +1,11 @@
-use Rattle.audit.specs.Audit.{audit_bitmap}
 use Rattle.report.proofs.StepLaws.{step_then, step_stop}
+use Rattle.audit.specs.Audit.{audit_bitmap}
 use Rattle.audit.proofs.chunks.audit_bitmap.Goals as goal
 
-pub returns-in-Refused : goal.returns-in-Refused
+pub returns-in_err-audit : goal.returns-in_err-audit
 unfolding audit_bitmap
-returns-in-Refused c = step_stop c.audit_use-audited.ensures _ _ _ c.in-Refused.is
+returns-in_err-audit c = step_stop c.audit_use.ensures (λ x. x) _ _ c.in_err-audit.was _ c.from_residual.ensures.1
 
-pub shape_of-map-in-Done : goal.shape_of-map-in-Done
-shape_of-map-in-Done c = c.read_bitmap.ensures.kept.long
-
-pub returns-in-Done : goal.returns-in-Done
+pub returns : goal.returns
 unfolding audit_bitmap
-returns-in-Done c = step_then c.audit_use-audited.ensures _ c.in-Done.is c.read_bitmap.ensures
+returns c = step_then c.audit_use.ensures (λ x. x) _ _ c.in_ok-audit.was c.read_bitmap.ensures

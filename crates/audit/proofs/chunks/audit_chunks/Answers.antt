@@ -1,29 +1,14 @@
-use Rattle.audit.proofs.ChunkLaws.{chunks_done, chunks_first}
-use Rattle.audit.proofs.Laws.{answer_is}
-use Rattle.report.proofs.StepLaws.{left_first, left_kept, left_on, left_refused, left_done, stepped_is}
-use native.Mathlib.Omega.{arith}
+use Rattle.std.proofs.Common.{ap, arith}
+use Rattle.blocks.specs.Reads.{run}
+use Rattle.report.proofs.StepLaws.{left_on, left_err, left_done}
+use Rattle.audit.proofs.ChunkLaws.{chunks_done, chunks_more}
 use Rattle.audit.proofs.chunks.audit_chunks.Goals as goal
 
-pub loop-at-init : goal.loop-at-init
-loop-at-init c = (c.u32_of-n.ensures.fits, left_first _ _ _ _ _)
+pub returns-in_err-audit : goal.returns-in_err-audit
+returns-in_err-audit c = left_err c.loop-i.invariant c.audit_chunk.ensures (λ x. x) _ c.in_err-audit.was _ (ap (run _) (chunks_more _ _ _ _ _ _ _ c.chunk_at-chunk.ensures c.loop-i-test.true)) _ c.from_residual.ensures.1
 
-pub audit_next-audited-requires : goal.audit_next-audited-requires
-audit_next-audited-requires c = (omega arith, omega arith)
-
-pub shape_of-map-in-Refused : goal.shape_of-map-in-Refused
-shape_of-map-in-Refused c = (left_kept c.loop-at.invariant.1 c.audit_next-audited.ensures).long
-
-pub returns-in-Refused : goal.returns-in-Refused
-returns-in-Refused c = answer_is _ _ _ c.refused.ensures (stepped_is (left_refused c.loop-at.invariant.1 c.audit_next-audited.ensures _ _ c.in-Refused.is) (chunks_first _ _ _ _ _ c.u32_of-n.ensures.is))
-
-pub loop-at-smaller : goal.loop-at-smaller
-loop-at-smaller c = (c.audit_next-audited.ensures.further _ c.in-On.is).0
-
-pub loop-at-preserved : goal.loop-at-preserved
-loop-at-preserved c = (c.loop-at.invariant.0, left_on c.loop-at.invariant.1 c.audit_next-audited.ensures _ c.in-On.is)
-
-pub shape_of-map : goal.shape_of-map
-shape_of-map c = c.loop-at.invariant.1.kept.long
+pub loop-i-preserved : goal.loop-i-preserved
+loop-i-preserved c = left_on c.loop-i.invariant c.audit_chunk.ensures _ c.in_ok-audit.was _ (ap (run _) (chunks_more _ _ _ _ _ _ _ c.chunk_at-chunk.ensures c.loop-i-test.true)) (omega arith)
 
 pub returns : goal.returns
-returns c = answer_is _ _ _ c.done.ensures (stepped_is (left_done c.loop-at.invariant.1 (chunks_done _ _ _ _ _ _ c.loop-at-test.false)) (chunks_first _ _ _ _ _ c.u32_of-n.ensures.is))
+returns c = left_done c.loop-i.invariant (chunks_done _ _ _ _ _ _ c.loop-i-test.false)

@@ -1,14 +1,11 @@
-use Prim.Native.Nat.{◌+◌, ◌*◌, ◌^◌, ◌<◌}
-use Rattle.manager.specs.Chunks.{chunks_at, chunk_length}
-use Rattle.manager.specs.clauses.Lists.{records}
-use Rattle.audit.specs.Audit.{audit_chunks}
-use Rattle.audit.specs.clauses.Answers.{audited, pool_at}
-use Rattle.report.proofs.StepLaws.{Left}
+use Rattle.std.proofs.Common.{◌-◌}
 use Rattle.blocks.specs.Blocks.{block_of}
+use Rattle.manager.specs.Chunks.{chunk_count}
+use Rattle.report.proofs.StepLaws.{Left}
+use Rattle.audit.specs.clauses.Answers.{audited, chunks_left}
 use Rattle.audit.proofs.chunks.audit_chunks.Given as goal
 
-abbrev pub invariant-loop-at : goal.invariant-loop-at
-invariant-loop-at l = (l.n < 2 ^ 32) × Left (block_of l.image l.container.size) l.container.count l.initial.at l.at (audited l.initial.map l.initial.found) (audited l.map l.found) (λ to. audit_chunks l.container (pool_at l.container l.place (block_of l.image l.container.size)) (records l.block to.left (chunks_at + chunk_length * to.next)))
-
-abbrev pub decreases-loop-at : goal.decreases-loop-at
-decreases-loop-at l = l.at.left
+abbrev pub invariant-loop-i : goal.invariant-loop-i
+invariant-loop-i l =
+    let f = block_of l.image l.container.size in
+    Left f l.container.count (record { next = 0; left = chunk_count l.block }) (record { next = l.i; left = l.i-end - l.i }) (audited l.initial.map l.fn.audit) (audited l.map l.audit) (λ to. chunks_left l.container l.place l.block to f)

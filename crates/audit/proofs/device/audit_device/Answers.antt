@@ -1,11 +1,13 @@
-use Rattle.audit.proofs.Laws.{answer_refused}
-use Rattle.audit.proofs.DeviceLaws.{device_there, device_absent}
-use Rattle.blocks.specs.clauses.Answers.{there_as}
-use mathlib.Core.Path.{sym, ap, ◌∙◌}
+use Rattle.blocks.specs.clauses.Images.{blocks_in}
+use Rattle.report.proofs.StepLaws.{read_then, read_stop}
+use Rattle.audit.specs.Audit.{audit_device}
+use Rattle.audit.proofs.DeviceLaws.{device_list}
 use Rattle.audit.proofs.device.audit_device.Goals as goal
 
-pub returns-in-Refused : goal.returns-in-Refused
-returns-in-Refused c = answer_refused _ _ _ _ _ c.refused.ensures (device_absent _ _ _ _ _ _ c.listed-list.ensures _ (sym (ap (there_as _) c.in-Refused.is) ∙ c.addresses_there-seen.ensures _))
+pub returns-in_err-addresses_there : goal.returns-in_err-addresses_there
+unfolding audit_device
+returns-in_err-addresses_there c = rw (← device_list (blocks_in c.args.image c.args.container) c.args.container _ _ c.listed-list.ensures) (read_stop _ _ _ (c.addresses_there.ensures _) _ c.in_err-addresses_there.was c.from_residual.ensures.1)
 
-pub returns-in-There : goal.returns-in-There
-returns-in-There c = device_there _ _ _ _ _ _ c.listed-list.ensures (sym (ap (there_as _) c.in-There.is) ∙ c.addresses_there-seen.ensures _) c.audit_listed.ensures
+pub returns : goal.returns
+unfolding audit_device
+returns c = rw (← device_list (blocks_in c.args.image c.args.container) c.args.container _ _ c.listed-list.ensures) (read_then _ _ _ (c.addresses_there.ensures _) _ c.in_ok-addresses_there.was c.audit_listed.ensures)

@@ -1,14 +1,11 @@
 use Rattle.audit.specs.Audit.{audit_use}
-use Rattle.audit.proofs.Laws.{unless_is}
 use Rattle.report.proofs.StepLaws.{step_then, step_stop}
-use mathlib.Core.Path.{ap}
-use mathlib.Core.Bool.{not}
 use Rattle.audit.proofs.problems.audit_use.Goals as goal
 
-pub returns-in-Refused : goal.returns-in-Refused
+pub returns-in_err-audit : goal.returns-in_err-audit
 unfolding audit_use
-returns-in-Refused c = step_stop (c.audit_mark-audited.ensures _ _ _) _ _ _ c.in-Refused.is
+returns-in_err-audit c = step_stop (c.audit_mark.ensures _ _ _) (λ x. x) _ _ c.in_err-audit.was _ c.from_residual.ensures.1
 
-pub returns-in-Done : goal.returns-in-Done
+pub returns : goal.returns
 unfolding audit_use
-returns-in-Done c = step_then (c.audit_mark-audited.ensures _ _ _) _ c.in-Done.is (unless_is _ _ _ _ _ (ap not c.used_at-used.ensures) (c.unless.ensures _ _ _))
+returns c = step_then (c.audit_mark.ensures _ _ _) (λ x. x) _ _ c.in_ok-audit.was (rw (← c.used_at-used.ensures) (c.unless.ensures _ _ _))

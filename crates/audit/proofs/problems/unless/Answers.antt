@@ -1,26 +1,16 @@
+use Rattle.std.proofs.Common.{refl}
+use Rattle.blocks.specs.Reads.{run}
+use Rattle.report.proofs.StepLaws.{stepped_is, stays_ok, read_then, read_stop}
 use Rattle.audit.proofs.Laws.{unless_holds, unless_fails}
-use borrow.Author.Rules.{rules}
 use Rattle.audit.proofs.problems.unless.Goals as goal
 
-pub done-requires : goal.done-requires
-done-requires c = search rules
-
--- src/problems.rt:79:9
-
 pub returns-then-ok : goal.returns-then-ok
-returns-then-ok c = λ f count map. unless_holds f count map _ _ _ _ _ c.if-ok.true c.done.ensures
+unfolding run
+returns-then-ok c = λ f count map. stepped_is (stays_ok (λ x. x) count map _ refl) (unless_holds _ _ _ _ c.if-ok.true)
 
--- src/problems.rt:82:9
-
-pub add_problem-logged-requires : goal.add_problem-logged-requires
-add_problem-logged-requires c = search rules
-
--- src/problems.rt:85:9
-
-pub with_problems-next-requires : goal.with_problems-next-requires
-with_problems-next-requires c = search rules
-
--- src/problems.rt:75:1
+pub returns-in_err-problems : goal.returns-in_err-problems
+returns-in_err-problems c = λ f count map. stepped_is (read_stop _ _ _ (c.add_problem.ensures f) _ c.in_err-problems.was c.from_residual.ensures.1) (unless_fails _ _ _ _ c.if-ok.false)
 
 pub returns : goal.returns
-returns c = λ f count map. rw c.with_problems-next.ensures (unless_fails f count map _ _ _ _ _ _ c.if-ok.false c.add_problem-logged.ensures)
+unfolding run
+returns c = λ f count map. rw c.with_problems.ensures (stepped_is (read_then _ _ _ (c.add_problem.ensures f) _ c.in_ok-problems.was (stays_ok (λ x. x) count map _ refl)) (unless_fails _ _ _ _ c.if-ok.false))

@@ -1,12 +1,14 @@
+use Rattle.std.proofs.Common.{refl}
+use Rattle.blocks.specs.Reads.{done, run}
+use Rattle.report.proofs.StepLaws.{step_then, step_stop, stays_ok}
 use Rattle.audit.specs.Audit.{audit_queued_block}
 use Rattle.audit.proofs.Laws.{entered}
-use Rattle.report.proofs.StepLaws.{step_then, step_stop}
 use Rattle.audit.proofs.queued.audit_block.Goals as goal
 
-pub returns-in-Refused : goal.returns-in-Refused
+pub returns-in_err-audit : goal.returns-in_err-audit
 unfolding audit_queued_block
-returns-in-Refused c = step_stop c.audit_use-audited.ensures _ _ _ c.in-Refused.is
+returns-in_err-audit c = step_stop c.audit_use.ensures (λ x. x) _ _ c.in_err-audit.was _ c.from_residual.ensures.1
 
-pub returns-in-Done : goal.returns-in-Done
-unfolding audit_queued_block
-returns-in-Done c = step_then c.audit_use-audited.ensures _ c.in-Done.is (entered _ _ _ _ _ _ _ c.in-Done.is c.use_block.ensures c.requires)
+pub returns : goal.returns
+unfolding audit_queued_block run
+returns c = step_then c.audit_use.ensures (λ x. x) _ _ c.in_ok-audit.was (entered done (stays_ok (λ x. x) _ _ _ refl) c.use_block.ensures c.requires)

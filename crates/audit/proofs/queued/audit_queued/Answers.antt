@@ -1,19 +1,16 @@
-use Rattle.audit.proofs.QueuedLaws.{entry_refused, entry_past, entry_inside}
-use Rattle.audit.proofs.Laws.{answer_refused}
-use Rattle.queue.specs.clauses.Answers.{run_as}
-use borrow.Author.Tests.{not-true, not-false, leb-true}
-use mathlib.Core.Path.{sym, ap, ◌∙◌}
-use mathlib.Core.Bool.{not}
+use Rattle.std.proofs.Common.{sym, ◌∙◌}
+use Rattle.report.proofs.StepLaws.{read_then, read_stop, need_then, need_stop}
+use Rattle.audit.specs.Audit.{audit_queued}
 use Rattle.audit.proofs.queued.audit_queued.Goals as goal
 
+pub returns-in_err-run : goal.returns-in_err-run
+unfolding audit_queued
+returns-in_err-run c = read_stop _ _ _ (c.run_of.ensures _) _ c.in_err-run.was c.from_residual.ensures.1
+
 pub returns-then-not-has_run : goal.returns-then-not-has_run
-returns-then-not-has_run c = answer_refused _ _ _ _ _ c.refused-then-not-has_run.ensures (entry_past _ _ _ _ _ _ (sym (c.run_of-named.ensures _) ∙ ap run_as c.in-Given.is) (sym c.has_run.ensures ∙ not-true _ (ap not c.if-not-has_run.true)))
+unfolding audit_queued
+returns-then-not-has_run c = read_then _ _ _ (c.run_of.ensures _) _ c.in_ok-run.was (need_stop _ _ _ (sym c.has_run.ensures ∙ c.if-not-has_run.true))
 
-pub audit_run-requires : goal.audit_run-requires
-audit_run-requires c = leb-true _ _ (sym c.has_run.ensures ∙ not-false _ (ap not c.if-not-has_run.false))
-
-pub returns-in-Refused : goal.returns-in-Refused
-returns-in-Refused c = answer_refused _ _ _ _ _ c.refused.ensures (entry_refused _ _ _ _ _ _ (sym (c.run_of-named.ensures _) ∙ ap run_as c.in-Refused.is))
-
-pub returns-else-not-has_run : goal.returns-else-not-has_run
-returns-else-not-has_run c = entry_inside _ _ _ _ _ _ (sym (c.run_of-named.ensures _) ∙ ap run_as c.in-Given.is) (sym c.has_run.ensures ∙ not-false _ (ap not c.if-not-has_run.false)) c.audit_run.ensures
+pub returns : goal.returns
+unfolding audit_queued
+returns c = read_then _ _ _ (c.run_of.ensures _) _ c.in_ok-run.was (need_then _ _ _ (sym c.has_run.ensures ∙ c.if-not-has_run.false) c.audit_run.ensures)

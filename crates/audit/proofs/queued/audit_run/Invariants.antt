@@ -1,10 +1,10 @@
-use Rattle.audit.specs.clauses.Answers.{audited, queued_left}
-use Rattle.report.proofs.StepLaws.{Left}
+use Rattle.std.proofs.Common.{◌-◌}
 use Rattle.blocks.specs.Blocks.{block_of}
+use Rattle.report.proofs.StepLaws.{Left}
+use Rattle.audit.specs.clauses.Answers.{audited, queued_left, run_blocks}
 use Rattle.audit.proofs.queued.audit_run.Given as goal
 
-abbrev pub invariant-loop-at : goal.invariant-loop-at
-invariant-loop-at l = Left (block_of l.image l.container.size) l.container.count l.initial.at l.at (audited l.initial.map l.initial.found) (audited l.map l.found) (λ to. queued_left l.container l.place to (block_of l.image l.container.size))
-
-abbrev pub decreases-loop-at : goal.decreases-loop-at
-decreases-loop-at l = l.at.left
+abbrev pub invariant-loop-block : goal.invariant-loop-block
+invariant-loop-block l =
+    let f = block_of l.image l.container.size in
+    Left f l.container.count (run_blocks l.fn.run) (record { next = l.block; left = l.block-end - l.block }) (audited l.initial.map l.fn.audit) (audited l.map l.audit) (λ to. queued_left l.container l.place to f)

@@ -1,5 +1,4 @@
-use mathlib.Core.Path.{refl, sym}
-use native.Mathlib.Nat.{add-zero}
+use Rattle.std.proofs.Common.{refl, sym, add-zero}
 use Rattle.audit.proofs.OnesLaws.{ones_few, ones_all}
 use Rattle.audit.proofs.WholeLaws.{byte_marked}
 use Rattle.audit.proofs.whole.mark_byte.Goals as goal

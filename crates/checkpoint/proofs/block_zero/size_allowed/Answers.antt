@@ -1,17 +1,11 @@
-use mathlib.Core.Path.{refl, sym, ◌∙◌}
-use Rattle.checkpoint.specs.Geometry.{size_allowed}
-use Rattle.checkpoint.proofs.OpeningLaws.{power_done, power_here, power_on, power_shift}
+use Rattle.std.proofs.Common.{rules, refl, ◌^◌, ◌*◌, ◌%◌}
+use lib.Dec.{eqb}
+use Rattle.std.proofs.lemmas.Iterator.{YieldsList-from_range}
+use Rattle.std.proofs.lemmas.Iterator.Search.{any_from_yields_List}
+use borrow.Author.Tests.{tests}
+use Rattle.checkpoint.specs.Geometry.{power_from, size_allowed}
 use Rattle.checkpoint.proofs.block_zero.size_allowed.Goals as goal
 
-pub loop-k-init : goal.loop-k-init
-unfolding size_allowed
-loop-k-init c = refl
-
-pub returns-then-size-k : goal.returns-then-size-k
-returns-then-size-k c = let few = c.loop-k-test.true in sym (power_here _ _ few (c.if-size-k.true ∙ power_shift _ few)) ∙ c.loop-k.invariant
-
-pub loop-k-preserved : goal.loop-k-preserved
-loop-k-preserved c = let few = c.loop-k-test.true in sym (power_on _ _ few (λ e. c.if-size-k.false (e ∙ sym (power_shift _ few)))) ∙ c.loop-k.invariant
-
 pub returns : goal.returns
-returns c = sym (power_done _ _ c.loop-k-test.false) ∙ c.loop-k.invariant
+unfolding size_allowed power_from
+returns c = any_from_yields_List (λ k. eqb c.args.size ((1 * 2 ^ k) % 2 ^ 64)) _ _ _ c.any.ensures.ran (YieldsList-from_range 12 17 5 refl refl) (λ x b q k. search (rules, tests))

@@ -1,16 +1,16 @@
-use native.Mathlib.Omega.{arith}
-use mathlib.Core.Path.{sym, ◌∙◌}
-use Rattle.checkpoint.proofs.ChainLaws.{belongs_kind, belongs_xid, belongs_entries, belongs_sum}
+use Rattle.std.proofs.Common.{◌≡◌, Bool, true, false, ◌&&◌, rules}
+use mathlib.Core.Bool.{and-true, and-false}
+use Rattle.checkpoint.specs.Map.{belongs_to}
 use Rattle.checkpoint.proofs.chain.belongs_to.Goals as goal
 
-pub returns-then-kind-ne-CHECKPOINT_MAP : goal.returns-then-kind-ne-CHECKPOINT_MAP
-returns-then-kind-ne-CHECKPOINT_MAP c = sym (belongs_kind _ _ (λ e. c.if-kind-ne-CHECKPOINT_MAP.true (c.kind.ensures ∙ e)))
+sum_last : (k x e v : Bool) → (k && x && e && v) ≡ (v && k && x && e)
+sum_last k x e true = and-true _
+sum_last k x e false = and-false _
 
-pub returns-then-xid : goal.returns-then-xid
-returns-then-xid c = sym (belongs_xid _ _ (sym c.kind.ensures ∙ c.if-kind-ne-CHECKPOINT_MAP.false) (λ e. c.if-xid.true (c.xid.ensures ∙ e ∙ sym c.xid-2.ensures)))
+pub returns-then-map_count-block : goal.returns-then-map_count-block
+unfolding belongs_to
+returns-then-map_count-block c = rw (← sum_last) (search rules)
 
-pub returns-then-block-map_count : goal.returns-then-block-map_count
-returns-then-block-map_count c = sym (belongs_entries _ _ (sym c.kind.ensures ∙ c.if-kind-ne-CHECKPOINT_MAP.false) (sym c.xid.ensures ∙ c.if-xid.false ∙ c.xid-2.ensures) (omega arith))
-
-pub returns : goal.returns
-returns c = c.verify.ensures ∙ sym (belongs_sum _ _ (sym c.kind.ensures ∙ c.if-kind-ne-CHECKPOINT_MAP.false) (sym c.xid.ensures ∙ c.if-xid.false ∙ c.xid-2.ensures) (omega arith))
+pub returns-else-map_count-block : goal.returns-else-map_count-block
+unfolding belongs_to
+returns-else-map_count-block c = rw (← sum_last) (search rules)

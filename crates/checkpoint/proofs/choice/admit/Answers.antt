@@ -1,15 +1,17 @@
-use Rattle.checkpoint.proofs.SearchLaws.{admit_first, admit_second, admit_differs, admit_as}
-use mathlib.Core.Path.{sym, ◌∙◌}
+use Rattle.std.proofs.Common.{rules}
+use Rattle.blocks.specs.Reads.{run}
+use Rattle.checkpoint.specs.Checkpoint.{admit}
+use Rattle.checkpoint.proofs.NeedLaws.{need_ok, need_err, handed_on}
 use Rattle.checkpoint.proofs.choice.admit.Goals as goal
 
-pub returns-then-has_bit : goal.returns-then-has_bit
-returns-then-has_bit c = λ t e f. sym (admit_first _ t _ e _ c.incompatible-flags.ensures f (sym c.has_bit.ensures ∙ c.if-has_bit.true))
+pub returns-in_err-need : goal.returns-in_err-need
+unfolding admit
+returns-in_err-need c = λ t is f. search (rules, need_ok, need_err, handed_on _ _ _ c.from_residual.ensures.1 c.in_err-need.ensures.failed.1)
 
-pub returns-then-has_bit-2 : goal.returns-then-has_bit-2
-returns-then-has_bit-2 c = λ t e f. sym (admit_second _ t _ e _ c.incompatible-flags.ensures f (sym c.has_bit.ensures ∙ c.if-has_bit.false) (sym c.has_bit-2.ensures ∙ c.if-has_bit-2.true))
-
-pub returns-then-block_count-geometry : goal.returns-then-block_count-geometry
-returns-then-block_count-geometry c = λ t e f. sym (admit_differs _ t _ e _ c.incompatible-flags.ensures f (sym c.has_bit.ensures ∙ c.if-has_bit.false) (sym c.has_bit-2.ensures ∙ c.if-has_bit-2.false) (λ s. c.if-block_count-geometry.true (c.block_count.ensures ∙ s)))
+pub returns-in_err-need-2 : goal.returns-in_err-need-2
+unfolding admit
+returns-in_err-need-2 c = λ t is f. rw is (search (rules, need_ok, need_err, handed_on _ _ _ c.from_residual-in_err-need-2.ensures.1 c.in_err-need-2.ensures.failed.1))
 
 pub returns : goal.returns
-returns c = λ t e f. rw c.xid.ensures (sym (admit_as _ t _ e _ c.incompatible-flags.ensures f (sym c.has_bit.ensures ∙ c.if-has_bit.false) (sym c.has_bit-2.ensures ∙ c.if-has_bit-2.false) (sym c.block_count.ensures ∙ c.if-block_count-geometry.false)))
+unfolding admit run
+returns c = λ t is f. rw is (search (rules, need_ok))

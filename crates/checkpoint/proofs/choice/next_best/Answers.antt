@@ -1,13 +1,16 @@
-use native.Mathlib.Nat.{sub-zero, add-zero}
-use mathlib.Core.Path.{refl, sym, ◌∙◌}
-use Rattle.checkpoint.proofs.SearchLaws.{best_done, best_turn}
+use Rattle.std.proofs.Common.{◌≡◌, refl, ap, sym, ◌∙◌, ◌∷◌, [], None, rules}
+use Rattle.std.proofs.lemmas.Fn.{fold_over}
+use Rattle.std.proofs.iter.Yields.{nat_range_steps, Range-gives}
+use Rattle.std.proofs.lemmas.List.Sums.{fold-append}
+use Rattle.std.specs.List.{fold}
+use Rattle.blocks.specs.Blocks.{block_of}
+use Rattle.checkpoint.proofs.SearchLaws.{best_turn, best_all}
 use Rattle.checkpoint.proofs.choice.next_best.Goals as goal
 
-pub loop-i-init : goal.loop-i-init
-loop-i-init c = refl
-
-pub loop-i-preserved : goal.loop-i-preserved
-loop-i-preserved c = sym (best_turn _ c.args.geometry _ _ _ _ c.loop-i-test.true c.better-best.ensures) ∙ c.loop-i.invariant
-
 pub returns : goal.returns
-returns c = sym (best_done _ c.args.geometry _ _ _ c.loop-i-test.false) ∙ c.loop-i.invariant ∙ rw (sub-zero, add-zero) refl
+returns c =
+    let turn = best_turn (block_of c.args.image.now c.args.geometry.size) c.args.geometry c.args.last in
+    fold_over nat_range_steps (λ x. x) _ (λ ys r. r ≡ fold turn None ys) _ (λ ys a x b f' j k.
+    let here : b ≡ turn a x = search rules in
+    (here ∙ ap (λ z. turn z x) j ∙ sym (fold-append turn None ys (x ∷ [])), search rules)) _ _ _ _ (Range-gives (record { start = 0; end = c.args.geometry.ring })) refl c.fold.ensures.ran
+    ∙ best_all _ c.args.geometry _

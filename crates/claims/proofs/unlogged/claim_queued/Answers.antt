@@ -1,17 +1,16 @@
-use mathlib.Core.Path.{sym, ap, ◌∙◌}
+use mathlib.Core.Path.{refl}
 use Rattle.blocks.specs.Reads.{no_blocks}
-use Rattle.blocks.proofs.Laws.{then_given}
-use Rattle.queue.specs.clauses.Answers.{run_as}
-use Rattle.claims.specs.Claims.{claim_queued}
+use Rattle.blocks.proofs.Laws.{is_given, is_refused}
 use Rattle.block_map.proofs.Laws.{not_made}
-use Rattle.claims.proofs.UnloggedLaws.{always_is, made_as, run_missing, run_there}
+use Rattle.claims.specs.Claims.{claim_queued}
+use Rattle.claims.specs.clauses.Unlogged.{unlogged_queued}
+use Rattle.claims.proofs.UnloggedLaws.{made_then}
 use Rattle.claims.proofs.unlogged.claim_queued.Goals as goal
 
-pub returns-in-Refused : goal.returns-in-Refused
-returns-in-Refused c = (run_missing _ _ _ _ (sym (c.run_of-ran.ensures no_blocks) ∙ ap run_as c.in-Refused.is), λ f. not_made)
+pub returns-in_default : goal.returns-in_default
+unfolding unlogged_queued
+returns-in_default c = (rw (is_refused _ _ no_blocks _ (c.run_of.ensures no_blocks) _ c.in_default.is) refl, λ f. not_made)
 
-pub returns-in-Given : goal.returns-in-Given
-unfolding claim_queued
-returns-in-Given c = let claimed = c in
-    let ran = always_is _ _ claimed.run_of-ran.ensures _ (ap run_as claimed.in-Given.is) in
-    (claimed.claim_unlogged.ensures.0 ∙ run_there _ _ _ _ (ran no_blocks), λ f. made_as (claimed.claim_unlogged.ensures.1 f) (λ log. then_given f _ _ _ (ran f)))
+pub returns : goal.returns
+unfolding claim_queued unlogged_queued
+returns c = (rw (is_given _ _ no_blocks _ (c.run_of.ensures no_blocks) _ c.in-Ok.is) c.claim_unlogged.ensures.0, λ f. made_then _ _ _ c.run_of.ensures _ c.in-Ok.is (c.claim_unlogged.ensures.1 f))

@@ -1,22 +1,24 @@
-use mathlib.Core.Path.{sym, ap, ◌∙◌}
+use native.Mathlib.Omega.{arith}
+use mathlib.Core.Path.{refl, sym, ◌∙◌}
 use Rattle.blocks.specs.Reads.{no_blocks}
-use Rattle.blocks.specs.clauses.Answers.{number_as}
+use Rattle.blocks.proofs.Laws.{is_given, is_refused}
 use Rattle.block_map.proofs.Laws.{not_made}
-use Rattle.claims.proofs.UnloggedLaws.{always_is, sum_missing, sum_there, claim_made}
+use Rattle.claims.specs.Claims.{claim}
+use Rattle.claims.specs.clauses.Unlogged.{unlogged_claim}
+use Rattle.claims.proofs.UnloggedLaws.{all_made, made_then}
 use Rattle.claims.proofs.unlogged.claim_unlogged.Goals as goal
 
-pub returns-then-takes_all : goal.returns-then-takes_all
-returns-then-takes_all c = let own = c in
-    let all = own in
-    let end = all in
-    let start = end in
-    let sum = always_is _ _ start.add-sum.ensures _ (ap number_as end.in-Given.is) in
-    (sym own.if-takes_all.true ∙ sum_there _ _ _ _ _ _ sum _ end.least-end.ensures _ all.takes_all.ensures, claim_made _ _ _ _ _ _ sum _ end.least-end.ensures _ all.takes_all.ensures own.if-takes_all.true _ start.requires own.own_all.ensures)
+pub returns-in_default : goal.returns-in_default
+unfolding unlogged_claim
+returns-in_default c = (rw (is_refused _ _ no_blocks _ (c.add.ensures no_blocks) _ c.in_default.is) refl, λ f. not_made)
 
-pub returns-in-Refused : goal.returns-in-Refused
-returns-in-Refused c = (sum_missing _ _ _ _ _ _ (sym (c.add-sum.ensures no_blocks) ∙ ap number_as c.in-Refused.is), λ f. not_made)
+pub returns-then-not-takes_all : goal.returns-then-not-takes_all
+unfolding unlogged_claim
+returns-then-not-takes_all c = (rw (is_given _ _ no_blocks _ (c.add.ensures no_blocks) _ c.in-Ok.is, ← c.min-end.ensures, ← c.takes_all.ensures, c.if-not-takes_all.true) refl, λ f. not_made)
 
-pub returns-else-takes_all : goal.returns-else-takes_all
-returns-else-takes_all c = let all = c in
-    let end = all in
-    (sym c.if-takes_all.false ∙ sum_there _ _ _ _ _ _ (always_is _ _ end.add-sum.ensures _ (ap number_as end.in-Given.is)) _ end.least-end.ensures _ all.takes_all.ensures, λ f. not_made)
+pub returns : goal.returns
+unfolding claim unlogged_claim
+returns c =
+    let taken = sym c.takes_all.ensures ∙ c.if-not-takes_all.false in
+    let made = all_made c.args.container.count _ c.args.start _ _ _ (omega (arith, c.min-end.ensures)) c.requires taken c.own_all.ensures in
+    (rw (is_given _ _ no_blocks _ (c.add.ensures no_blocks) _ c.in-Ok.is, ← c.min-end.ensures, taken) refl, λ f. made_then _ _ _ c.add.ensures _ c.in-Ok.is (rw (← c.min-end.ensures) (made f)))

@@ -1,15 +1,10 @@
-use mathlib.Core.Path.{refl, sym, ◌∙◌}
-use Rattle.claims.proofs.UnloggedLaws.{taken_done, taken_more, taken_not}
+use mathlib.Core.Path.{refl}
+use borrow.Author.Rules.{rules}
+use borrow.Author.Tests.{tests}
+use Rattle.std.proofs.lemmas.Iterator.{YieldsList-from_range}
+use Rattle.std.proofs.lemmas.Iterator.Search.{all_from_yields_List}
+use Rattle.claims.specs.clauses.Unlogged.{takes}
 use Rattle.claims.proofs.unlogged.takes_all.Goals as goal
 
-pub loop-a-init : goal.loop-a-init
-loop-a-init c = refl
-
-pub loop-a-preserved : goal.loop-a-preserved
-loop-a-preserved c = sym (taken_more _ _ _ c.loop-a-test.true _ _ _ c.cell.ensures c.owner-held.ensures _ c.takes.ensures c.if-takes.true) ∙ c.loop-a.invariant
-
-pub returns-else-takes : goal.returns-else-takes
-returns-else-takes c = sym (sym c.loop-a.invariant ∙ taken_not _ _ _ c.loop-a-test.true _ _ _ c.cell.ensures c.owner-held.ensures _ c.takes.ensures c.if-takes.false)
-
 pub returns : goal.returns
-returns c = sym (sym c.loop-a.invariant ∙ taken_done _ _ _ _ c.loop-a-test.false)
+returns c = all_from_yields_List (takes c.args.kind c.args.map.now) _ _ _ c.all.ensures.ran (YieldsList-from_range c.args.start c.args.end _ refl refl) (λ x b q k. search (rules, tests))

@@ -1,11 +1,13 @@
-use borrow.Author.Tests.{not-true, not-false}
-use Rattle.free_ring.proofs.AuditLaws.{index_free, index_used}
-use mathlib.Core.Path.{ap}
-use mathlib.Core.Bool.{not}
+use Rattle.std.proofs.Common.{refl}
+use Rattle.blocks.specs.Reads.{run}
+use Rattle.report.proofs.StepLaws.{stays_ok}
+use Rattle.free_ring.specs.FreeRing.{audit_index}
 use Rattle.free_ring.proofs.audits.audit_index.Goals as goal
 
 pub returns-then-not-used : goal.returns-then-not-used
-returns-then-not-used c = index_free _ _ _ _ _ (not-true _ (ap not c.if-not-used.true)) c.done.ensures
+unfolding run audit_index
+returns-then-not-used c = λ f count map. rw c.if-not-used.true (stays_ok (λ x. x) count map _ refl)
 
 pub returns : goal.returns
-returns c = index_used _ _ _ _ _ (not-false _ (ap not c.if-not-used.false)) c.ring_problem.ensures
+unfolding audit_index
+returns c = rw c.if-not-used.false c.ring_problem.ensures

@@ -1,13 +1,11 @@
-use mathlib.Core.Path.{sym, ap, ◌∙◌}
-use Rattle.blocks.specs.clauses.Answers.{there_as}
-use Rattle.free_ring.specs.FreeRing.{audit_table, audit_ring}
-use Rattle.free_ring.proofs.AuditLaws.{list_absent, list_given}
+use Rattle.report.proofs.StepLaws.{read_then, read_stop}
+use Rattle.free_ring.specs.FreeRing.{audit_ring}
 use Rattle.free_ring.proofs.audits.audit_ring.Goals as goal
 
-pub returns-in-Refused : goal.returns-in-Refused
+pub returns-in_err-free_next : goal.returns-in_err-free_next
 unfolding audit_ring
-returns-in-Refused c = list_absent _ (audit_table _) _ _ _ (λ f. sym (ap (there_as _) c.in-Refused.is) ∙ c.free_next-seen.ensures f) c.refused.ensures
+returns-in_err-free_next c = λ f count map. read_stop _ _ _ (c.free_next.ensures f) _ c.in_err-free_next.was c.from_residual.ensures.1
 
-pub returns-in-There : goal.returns-in-There
+pub returns : goal.returns
 unfolding audit_ring
-returns-in-There c = list_given _ (audit_table _) _ _ _ (λ f. sym (ap (there_as _) c.in-There.is) ∙ c.free_next-seen.ensures f) c.audit_table.ensures
+returns c = λ f count map. read_then _ _ _ (c.free_next.ensures f) _ c.in_ok-free_next.was (c.audit_table.ensures f count map)

@@ -1,13 +1,11 @@
-use mathlib.Core.Path.{sym, ap, ◌∙◌}
-use Rattle.blocks.specs.clauses.Answers.{there_as}
-use Rattle.free_ring.proofs.AuditLaws.{table_absent, table_there}
+use Rattle.report.proofs.StepLaws.{read_then, read_stop}
+use Rattle.free_ring.specs.FreeRing.{audit_table}
 use Rattle.free_ring.proofs.audits.audit_table.Goals as goal
 
-pub audit_free-requires : goal.audit_free-requires
-audit_free-requires c = c.free_list-list.ensures.1
+pub returns-in_err-pool_indices : goal.returns-in_err-pool_indices
+unfolding audit_table
+returns-in_err-pool_indices c = λ f count map. read_stop _ _ _ (c.pool_indices.ensures f) _ c.in_err-pool_indices.was c.from_residual.ensures.1
 
-pub returns-in-Refused : goal.returns-in-Refused
-returns-in-Refused c = table_absent _ _ _ _ _ _ (λ f. sym (ap (there_as _) c.in-Refused.is) ∙ c.pool_indices-seen.ensures f) c.refused.ensures
-
-pub returns-in-There : goal.returns-in-There
-returns-in-There c = table_there _ _ _ _ _ _ _ c.pool_place-place.ensures c.free_list-list.ensures.0 (λ f. sym (ap (there_as _) c.in-There.is) ∙ c.pool_indices-seen.ensures f) c.audit_free.ensures
+pub returns : goal.returns
+unfolding audit_table
+returns c = λ f count map. read_then _ _ _ (c.pool_indices.ensures f) _ c.in_ok-pool_indices.was (rw (c.pool_place-place.ensures, c.free_list-list.ensures.0) at (c.audit_free.ensures f count map))

@@ -1,15 +1,11 @@
-use Rattle.free_ring.proofs.AuditLaws.{visiting, visited_all, visiting_stop, visiting_on}
-use borrow.Author.Rules.{rules}
+use Rattle.free_ring.proofs.AuditLaws.{visited_all, visiting_stop, visiting_on}
 use Rattle.free_ring.proofs.audits.audit_visited.Goals as goal
 
-pub loop-left-init : goal.loop-left-init
-loop-left-init c = visiting _ _ _ _ _ _ (search rules)
+pub returns-in_err-audit : goal.returns-in_err-audit
+returns-in_err-audit c = visiting_stop _ _ _ _ _ _ _ _ _ c.loop.invariant c.loop-test.true _ c.bit_at.ensures _ c.audit_index.ensures _ c.in_err-audit.was _ c.from_residual.ensures.1
 
-pub returns-in-Refused : goal.returns-in-Refused
-returns-in-Refused c = visiting_stop _ _ _ _ _ _ _ _ _ c.loop-left.invariant _ _ c.loop-left-test.true c.bit_at-asked.ensures c.audit_index-audited.ensures _ c.in-Refused.is
-
-pub loop-left-preserved : goal.loop-left-preserved
-loop-left-preserved c = visiting_on _ _ _ _ _ _ _ _ _ c.loop-left.invariant _ _ c.loop-left-test.true c.bit_at-asked.ensures c.audit_index-audited.ensures _ c.in-Done.is c.next_index-i.ensures
+pub loop-preserved : goal.loop-preserved
+loop-preserved c = visiting_on _ _ _ _ _ _ _ _ _ c.loop.invariant c.loop-test.true _ c.bit_at.ensures _ c.audit_index.ensures _ _ c.in_ok-audit.was c.next_index-i.ensures
 
 pub returns : goal.returns
-returns c = visited_all _ _ _ _ _ _ _ _ _ c.loop-left.invariant _ c.loop-left-test.false c.done.ensures
+returns c = visited_all _ _ _ _ _ _ _ _ _ c.loop.invariant c.loop-test.false

@@ -1,8 +1,13 @@
-use Rattle.free_ring.proofs.AuditLaws.{closed_refused, closed_done}
+use Rattle.std.proofs.Common.{refl}
+use Rattle.blocks.specs.Reads.{run}
+use Rattle.report.proofs.StepLaws.{step_then, step_stop, stays_ok}
+use Rattle.free_ring.specs.FreeRing.{close_ring}
 use Rattle.free_ring.proofs.audits.close_ring.Goals as goal
 
-pub returns-in-Refused : goal.returns-in-Refused
-returns-in-Refused c = closed_refused _ _ _ _ _ _ c.audit_end-audited.ensures c.in-Refused.is
+pub returns-in_err-audit : goal.returns-in_err-audit
+unfolding close_ring
+returns-in_err-audit c = λ f count map. step_stop (c.audit_end.ensures f count map) (λ x. x) _ _ c.in_err-audit.was _ c.from_residual.ensures.1
 
-pub returns-in-Done : goal.returns-in-Done
-returns-in-Done c = closed_done _ _ _ _ _ c.audit_end-audited.result _ c.audit_end-audited.ensures c.in-Done.is c.with_ring.ensures c.done.ensures
+pub returns : goal.returns
+unfolding run close_ring
+returns c = λ f count map. rw c.with_ring.ensures (step_then (c.audit_end.ensures f count map) (λ x. x) _ _ c.in_ok-audit.was (stays_ok (λ x. x) count map _ refl))

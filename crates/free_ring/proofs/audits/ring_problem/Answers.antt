@@ -1,9 +1,11 @@
-use native.Mathlib.Omega.{arith}
-use Rattle.free_ring.proofs.AuditLaws.{problem_past, problem_fits}
+use Rattle.report.proofs.StepLaws.{read_then, read_stop}
+use Rattle.free_ring.specs.FreeRing.{ring_problem}
 use Rattle.free_ring.proofs.audits.ring_problem.Goals as goal
 
-pub returns-then-base-index : goal.returns-then-base-index
-returns-then-base-index c = problem_past _ _ _ _ _ (omega arith) c.refused.ensures
+pub returns-in_err-add : goal.returns-in_err-add
+unfolding ring_problem
+returns-in_err-add c = λ f count map. read_stop _ _ _ (c.add.ensures f) _ c.in_err-add.was c.from_residual.ensures.1
 
 pub returns : goal.returns
-returns c = problem_fits _ _ _ _ _ (omega arith) c.unless.ensures
+unfolding ring_problem
+returns c = λ f count map. read_then _ _ _ (c.add.ensures f) _ c.in_ok-add.was (c.unless.ensures f count map)

@@ -1,5 +1,5 @@
+use Rattle.std.proofs.Common.{arith}
 use Rattle.free_ring.proofs.SetLaws.{bit_put, one_shifted}
-use native.Mathlib.Omega.{arith}
 use Rattle.free_ring.proofs.sets.set_bit.Goals as goal
 
 pub returns : goal.returns

@@ -1,4 +1,4 @@
-use native.Mathlib.Omega.{arith}
+use Rattle.std.proofs.Common.{arith}
 use Rattle.free_ring.proofs.WalkLaws.{entry_past_table, entry_of_table}
 use Rattle.free_ring.proofs.walks.next_index.Goals as goal
 

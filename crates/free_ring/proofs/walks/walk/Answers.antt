@@ -1,9 +1,7 @@
+use Rattle.std.proofs.Common.{refl, arith, rules}
 use Rattle.free_ring.specs.clauses.Sets.{set_bytes}
-use mathlib.Core.Path.{refl, sym}
-use native.Mathlib.Omega.{arith}
 use Rattle.manager.proofs.ListLaws.{values_length}
 use Rattle.free_ring.proofs.WalkLaws.{walking, walked_outside, walked_again, room, walked_tail, walking_on}
-use borrow.Author.Rules.{rules}
 use Rattle.free_ring.proofs.walks.walk.Goals as goal
 
 pub loop-i-init : goal.loop-i-init
@@ -12,20 +10,11 @@ loop-i-init c = walking _ _ _ _ set_bytes (values_length _ _ _ _) refl (search r
 pub returns-then-list-i : goal.returns-then-list-i
 returns-then-list-i c = walked_outside _ _ _ _ _ _ _ c.loop-i.invariant c.if-list-i.true
 
-pub slice_bounds-bit_at-end : goal.slice_bounds-bit_at-end
-slice_bounds-bit_at-end c = sym c.loop-i.invariant.set.wide
-
 pub returns-then-bit_at : goal.returns-then-bit_at
 returns-then-bit_at c = walked_again _ _ _ _ _ _ _ c.loop-i.invariant _ c.bit_at.ensures c.if-list-i.false c.if-bit_at.true
 
-pub slice_bounds-set_bit-end : goal.slice_bounds-set_bit-end
-slice_bounds-set_bit-end c = sym c.loop-i.invariant.set.wide
-
-pub set_bit-requires : goal.set_bit-requires
-set_bit-requires c = omega (arith, c.loop-i.invariant.set.wide, c.loop-i.invariant.fits)
-
-pub overflow_add-k : goal.overflow_add-k
-overflow_add-k c = record { fits = omega (arith, room _ _ _ _ _ _ _ c.loop-i.invariant _ c.bit_at.ensures c.if-list-i.false c.if-bit_at.false) }
+pub overflow_add-count : goal.overflow_add-count
+overflow_add-count c = record { fits = omega (arith, room _ _ _ _ _ _ _ c.loop-i.invariant _ c.bit_at.ensures c.if-list-i.false c.if-bit_at.false) }
 
 pub returns-then-i-list : goal.returns-then-i-list
 returns-then-i-list c = walked_tail _ _ _ _ _ _ _ c.loop-i.invariant _ c.bit_at.ensures c.if-list-i.false c.if-bit_at.false c.if-i-list.true

@@ -1,10 +1,6 @@
-use Rattle.std.proofs.Common.{◌≡◌, ◌≤◌, length}
-use lib.Seq.{paste}
+use Rattle.std.proofs.Common.{◌≡◌, ◌++◌, length, drop}
 use Rattle.listing_text.specs.Text.{digits}
 use Rattle.listing_text.proofs.numerals.put_digits.Given as goal
 
-abbrev pub invariant-loop-left : goal.invariant-loop-left
-invariant-loop-left l = (l.left ≤ l.k) × (length l.out ≡ length l.initial.out) × (paste l.out l.at (digits l.base l.left l.rest) l.left ≡ paste l.initial.out l.at (digits l.base l.k l.figure) l.k)
-
-abbrev pub decreases-loop-left : goal.decreases-loop-left
-decreases-loop-left l = l.left
+abbrev pub invariant-loop-i : goal.invariant-loop-i
+invariant-loop-i l = (length l.out ≡ length l.initial.out) × (digits l.base l.i l.rest ++ drop l.i l.out ≡ digits l.base (length l.initial.out) l.figure)

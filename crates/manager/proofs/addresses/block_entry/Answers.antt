@@ -1,7 +1,6 @@
-use mathlib.Core.Path.{refl}
-use Rattle.manager.proofs.ListLaws.{entry_past, entry_none}
-use borrow.Author.Rules.{rules}
+use Rattle.std.proofs.Common.{arith}
+use Rattle.manager.proofs.ListLaws.{number_past}
 use Rattle.manager.proofs.addresses.block_entry.Goals as goal
 
-pub returns-then-at-index : goal.returns-then-at-index
-returns-then-at-index c = entry_none _ _ _ (entry_past _ _ _ (search rules) (search rules) _ _ refl (search rules) c.if-at-index.true)
+pub returns-in-None : goal.returns-in-None
+returns-in-None c = number_past _ _ _ (omega arith)

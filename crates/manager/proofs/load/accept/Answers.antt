@@ -1,17 +1,19 @@
-use borrow.Author.Tests.{not-true, not-false}
-use mathlib.Core.Path.{sym, ◌∙◌}
-use native.Mathlib.Omega.{arith}
-use Rattle.manager.proofs.LoadLaws.{accepted_bad, accepted_short, accepted_given}
+use Rattle.std.proofs.Common.{arith}
+use Rattle.std.proofs.lemmas.Grind.{common_steps}
+use Rattle.std.proofs.lemmas.Bool.Decides.{nat_tests}
+use Rattle.blocks.specs.Reads.{run, need, ◌>>=◌}
+use Rattle.manager.specs.Manager.{accepted}
 use Rattle.manager.proofs.Laws.{placed_length}
-use mathlib.Core.Path.{ap}
-use mathlib.Core.Bool.{not}
 use Rattle.manager.proofs.load.accept.Goals as goal
 
 pub returns-then-not-verify : goal.returns-then-not-verify
-returns-then-not-verify c = sym (accepted_bad _ _ (sym c.verify.ensures ∙ not-true _ (ap not c.if-not-verify.true)))
+unfolding accepted run need ◌>>=◌
+returns-then-not-verify c = grind (arith, common_steps)
 
 pub returns-then-manager-lt-LEAST_MANAGER : goal.returns-then-manager-lt-LEAST_MANAGER
-returns-then-manager-lt-LEAST_MANAGER c = sym (accepted_short _ _ (sym c.verify.ensures ∙ not-false _ (ap not c.if-not-verify.false)) (rw placed_length (omega arith)))
+unfolding accepted run need ◌>>=◌
+returns-then-manager-lt-LEAST_MANAGER c = grind (arith, nat_tests, placed_length)
 
 pub returns : goal.returns
-returns c = sym (accepted_given _ _ (sym c.verify.ensures ∙ not-false _ (ap not c.if-not-verify.false)) (rw placed_length (omega arith)))
+unfolding accepted run need ◌>>=◌
+returns c = grind (arith, nat_tests, placed_length)

@@ -1,9 +1,12 @@
-use mathlib.Core.Path.{◌∙◌}
-use Rattle.manager.proofs.LoadLaws.{by_mapping, by_nothing}
+use Rattle.std.proofs.Common.{arith, rules}
+use Rattle.blocks.specs.Reads.{run}
+use Rattle.manager.specs.Manager.{manager_by}
 use Rattle.manager.proofs.load.load.Goals as goal
 
-pub returns-in-To : goal.returns-in-To
-returns-in-To c = c.load_at.ensures ∙ by_mapping _ _ _ _ _ c.in-To.is
+pub returns-in_err-mapping : goal.returns-in_err-mapping
+unfolding manager_by run
+returns-in_err-mapping c = grind (arith, c.in_err-mapping.was)
 
-pub returns-in-Nowhere : goal.returns-in-Nowhere
-returns-in-Nowhere c = by_nothing _ _ _ _ c.in-Nowhere.is
+pub returns : goal.returns
+unfolding manager_by
+returns c = search rules

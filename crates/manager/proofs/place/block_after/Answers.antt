@@ -1,7 +1,6 @@
-use native.Mathlib.Omega.{arith}
-use mathlib.Core.Path.{◌∙◌}
+use Rattle.std.proofs.Common.{arith}
 use Rattle.manager.proofs.Laws.{block_past}
 use Rattle.manager.proofs.place.block_after.Goals as goal
 
-pub returns-then-base-index : goal.returns-then-base-index
-returns-then-base-index c = c.part_of.ensures ∙ block_past _ _ _ (omega arith)
+pub returns-in-None : goal.returns-in-None
+returns-in-None c = block_past _ _ _ (omega arith)

@@ -14,17 +14,8 @@ put_pair-requires c = (omega (arith, c.if-n-eq-PAIR.true), omega (arith, c.if-n-
 pub returns-then-n-eq-PAIR : goal.returns-then-n-eq-PAIR
 returns-then-n-eq-PAIR c = wrote_as (pair_whole _ c.if-n-eq-PAIR.true) c.put_pair.ensures
 
-pub overflow_add-end : goal.overflow_add-end
-overflow_add-end c = omega (arith, c.in_eights.ensures.0, eights_room (length c.args.piece.now))
-
-pub overflow_sub-end : goal.overflow_sub-end
-overflow_sub-end c = omega (arith, c.in_eights.ensures.0, c.if-n-eq0.false)
-
 pub put-requires : goal.put-requires
 put-requires c = omega (arith, c.in_eights.ensures.0, c.if-n-eq0.false, eights_room (length c.args.piece.now))
-
-pub put_bytes-requires : goal.put_bytes-requires
-put_bytes-requires c = omega (arith, c.in_eights.ensures.1, c.in_eights.ensures.0, eights_room (length c.args.piece.now))
 
 pub returns : goal.returns
 returns c = padded_put _ _ _ (omega (arith, c.if-n-eq0.false)) (ap (λ n. c.args.at + n) c.in_eights.ensures.0) c.put.ensures.0 c.put_bytes.ensures

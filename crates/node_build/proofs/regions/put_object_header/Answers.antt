@@ -4,8 +4,4 @@ use native.Mathlib.Omega.{arith}
 use Rattle.node_build.proofs.regions.put_object_header.Goals as goal
 
 pub returns : goal.returns
-returns c = let fourth = c in
-    let third = fourth in
-    let second = third in
-    let first = second in
-    (wrote_as (object_is _) (wrote_then (wrote_then (wrote_then first.put-xid.ensures.0 second.put-obj_type.ensures.0) third.put-subtype.ensures.0) fourth.put.ensures.0), omega arith)
+returns c = (wrote_as (object_is _) (wrote_then (wrote_then (wrote_then c.put-xid.ensures.0 c.put-obj_type.ensures.0) c.put-subtype.ensures.0) c.put.ensures.0), omega arith)

@@ -4,7 +4,4 @@ use native.Mathlib.Omega.{arith}
 use Rattle.node_build.proofs.regions.put_shape.Goals as goal
 
 pub returns : goal.returns
-returns c = let third = c in
-    let second = third in
-    let first = second in
-    (wrote_as (shape_is _ _ _ _ first.flags.ensures) (wrote_then (wrote_then first.put-level.ensures.0 second.put-keys.ensures.0) third.put.ensures.0), omega arith)
+returns c = (wrote_as (shape_is _ _ _ _ c.flags.ensures) (wrote_then (wrote_then c.put-level.ensures.0 c.put-keys.ensures.0) c.put.ensures.0), omega arith)

@@ -22,13 +22,7 @@ pub put-requires-in-Variable : goal.put-requires-in-Variable
 put-requires-in-Variable c = omega (arith, width_variable _ c.in-Variable.is)
 
 pub returns-in-Fixed : goal.returns-in-Fixed
-returns-in-Fixed c = let second = c in
-    let first = second in
-    wrote_as (slot_fixed _ _ _ first.in-Fixed.is _ _ _ _) (wrote_then first.put-value.ensures.0 second.put.ensures.0)
+returns-in-Fixed c = wrote_as (slot_fixed _ _ _ c.in-Fixed.is _ _ _ _) (wrote_then c.put-value.ensures.0 c.put.ensures.0)
 
 pub returns-in-Variable : goal.returns-in-Variable
-returns-in-Variable c = let fourth = c in
-    let third = fourth in
-    let second = third in
-    let first = second in
-    wrote_as (slot_variable _ first.in-Variable.is _ _ _ _) (wrote_then (wrote_then (wrote_then first.put-a.ensures.0 second.put-b.ensures.0) third.put-c.ensures.0) fourth.put-in-Variable.ensures.0)
+returns-in-Variable c = wrote_as (slot_variable _ c.in-Variable.is _ _ _ _) (wrote_then (wrote_then (wrote_then c.put-a.ensures.0 c.put-b.ensures.0) c.put-c.ensures.0) c.put-in-Variable.ensures.0)

@@ -1,10 +1,7 @@
 use Rattle.node_build.proofs.Laws.{Measuring}
-use lib.ListN.{length}
-use Prim.Native.Nat.{◌-◌}
+use Rattle.std.specs.Slice.Iter.{chunks_exact_rest, chunks_exact_size}
+use Rattle.std.specs.Prelude.{◌≡◌}
 use Rattle.node_build.proofs.request.measure.Given as goal
 
-abbrev pub invariant-loop-i : goal.invariant-loop-i
-invariant-loop-i l = Measuring l.packed l.lengths l.parts l.i l.left l.keys l.values
-
-abbrev pub decreases-loop-i : goal.decreases-loop-i
-decreases-loop-i l = length l.lengths - l.i
+abbrev pub invariant-loop-entry : goal.invariant-loop-entry
+invariant-loop-entry l = (chunks_exact_size l.entry-iterator ≡ 2) × Measuring l.packed l.lengths l.parts (chunks_exact_rest l.entry-iterator) l.left l.keys l.values

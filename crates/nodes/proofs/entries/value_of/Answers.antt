@@ -1,7 +1,8 @@
-use Rattle.nodes.specs.clauses.Answers.{part_as}
-use Rattle.nodes.proofs.Laws.{value_ghost, value_before, value_refused, value_given}
+use Rattle.blocks.proofs.Laws.{at_err, at_ok, is_refused, is_given}
+use Rattle.nodes.proofs.Laws.{value_ghost, value_before, value_cut}
 use native.Mathlib.Omega.{arith}
-use mathlib.Core.Path.{sym, ap, ◌∙◌}
+use mathlib.Core.Path.{sym, ◌∙◌, refl}
+use Rattle.blocks.specs.Reads.{run}
 use Rattle.nodes.proofs.entries.value_of.Goals as goal
 
 pub returns-then-slot-eq-GHOST : goal.returns-then-slot-eq-GHOST
@@ -10,8 +11,9 @@ returns-then-slot-eq-GHOST c = λ f. sym (value_ghost f _ _ c.if-slot-eq-GHOST.t
 pub returns-then-end-slot : goal.returns-then-end-slot
 returns-then-end-slot c = λ f. sym (value_before f _ _ c.if-slot-eq-GHOST.false (omega arith))
 
-pub returns-in-Refused : goal.returns-in-Refused
-returns-in-Refused c = λ f. sym (value_refused f _ _ c.if-slot-eq-GHOST.false (omega arith) _ (omega arith) _ (sym (c.cut-c.ensures f) ∙ ap (part_as _) c.in-Refused.is))
+pub returns-in_err-value : goal.returns-in_err-value
+returns-in_err-value c = λ f. at_err _ _ f _ (c.cut.ensures f) _ _ _ c.in_err-value.was _ c.from_residual.ensures.1 ∙ sym (value_cut f _ _ c.if-slot-eq-GHOST.false (omega arith) _ (omega arith))
 
-pub returns-in-Given : goal.returns-in-Given
-returns-in-Given c = λ f. sym (value_given f _ _ c.if-slot-eq-GHOST.false (omega arith) _ (omega arith) _ (sym (c.cut-c.ensures f) ∙ ap (part_as _) c.in-Given.is))
+pub returns : goal.returns
+unfolding run
+returns c = λ f. at_ok _ _ f _ (c.cut.ensures f) _ _ c.in_ok-value.was _ refl ∙ sym (value_cut f _ _ c.if-slot-eq-GHOST.false (omega arith) _ (omega arith))

@@ -1,17 +1,19 @@
-use Rattle.nodes.specs.clauses.Answers.{description_as}
+use Rattle.blocks.specs.Reads.{run}
+use Rattle.blocks.proofs.Laws.{at_err, at_ok, need_false, need_true}
+use Rattle.nodes.specs.ObjectMap.{describe_map}
 use borrow.Author.Tests.{not-true, not-false}
-use Rattle.nodes.proofs.Laws.{tree_undescribed, tree_other, tree_described}
 use mathlib.Core.Path.{sym, ap, ◌∙◌}
 use mathlib.Core.Bool.{not}
 use Rattle.nodes.proofs.object_map.describe_map.Goals as goal
 
+pub returns-in_err-description : goal.returns-in_err-description
+unfolding describe_map
+returns-in_err-description c = λ f. at_err _ _ f _ (c.describe.ensures f) _ _ _ c.in_err-description.was _ c.from_residual.ensures.1
+
 pub returns-then-not-is_map : goal.returns-then-not-is_map
-returns-then-not-is_map c = let told = c in
-    λ f. sym (tree_other f _ _ (sym (told.describe-described.ensures f) ∙ ap description_as told.in-Given.is) (sym c.is_map.ensures ∙ not-true _ (ap not c.if-not-is_map.true)))
+unfolding describe_map
+returns-then-not-is_map c = λ f. at_ok _ _ f _ (c.describe.ensures f) _ _ c.in_ok-description.was _ (sym (need_false f _ _ _ (sym c.is_map.ensures ∙ not-true _ (ap not c.if-not-is_map.true))))
 
-pub returns-in-Refused : goal.returns-in-Refused
-returns-in-Refused c = λ f. sym (tree_undescribed f _ _ (sym (c.describe-described.ensures f) ∙ ap description_as c.in-Refused.is))
-
-pub returns-else-not-is_map : goal.returns-else-not-is_map
-returns-else-not-is_map c = let told = c in
-    λ f. sym (tree_described f _ _ (sym (told.describe-described.ensures f) ∙ ap description_as told.in-Given.is) (sym c.is_map.ensures ∙ not-false _ (ap not c.if-not-is_map.false)))
+pub returns : goal.returns
+unfolding describe_map run
+returns c = λ f. at_ok _ _ f _ (c.describe.ensures f) _ _ c.in_ok-description.was _ (sym (need_true f _ _ _ (sym c.is_map.ensures ∙ not-false _ (ap not c.if-not-is_map.false))))

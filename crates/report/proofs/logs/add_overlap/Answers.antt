@@ -1,12 +1,24 @@
-use Rattle.std.proofs.Common.{sym, ◌∙◌}
-use Rattle.report.proofs.Laws.{note_room, note_full, overlap_more, overlap_refused}
-use Rattle.report.proofs.logs.add_overlap.Goals.{then-overlaps-2, else-overlaps-2}
+use Rattle.std.proofs.Common.{sym, arith, ◌∙◌, ap, rules}
+use Rattle.std.specs.Prelude.{IsErrAnd}
+use Rattle.blocks.specs.Reads.{run, given}
+use Rattle.blocks.proofs.Laws.{then_given, then_refused}
+use Rattle.report.specs.Report.{add_overlap}
+use Rattle.report.proofs.Laws.{note_room, note_full, overlap_room, overlap_exact, overlap_given, overlap_refused}
+use Rattle.report.proofs.StepLaws.{passed_on}
+use Rattle.report.proofs.logs.add_overlap.Goals.{then-overlaps, else-overlaps}
 use Rattle.report.proofs.logs.add_overlap.Goals as goal
 
-pub returns-then-overlaps : goal.returns-then-overlaps
-returns-then-overlaps c = overlap_refused _ _ _ c.overlap_total-overlaps.ensures c.if-overlaps.true
+pub returns-in_err-add : goal.returns-in_err-add
+unfolding add_overlap
+returns-in_err-add c = λ f. passed_on _ _ _ c.from_residual.ensures.1 ∙ sym (then_refused f _ _ _ (overlap_refused c.args.log _ c.overlap_total-overlaps.ensures _ f (c.add.ensures f) _ c.in_err-add.was))
+
+pub count_claimant-claimants-requires : goal.count_claimant-claimants-requires
+count_claimant-claimants-requires c =
+    omega (arith, overlap_room c.args.log _ c.overlap_total-overlaps.ensures _ _ (c.add.ensures (λ n. c.args.log.claimants)) _ c.in_ok-add.was, c.overlap_total-overlaps.ensures)
 
 pub returns : goal.returns
-returns c = let given = c.args in
-    overlap_more given.overlap given.log _ c.overlap_total-overlaps.ensures _ _ c.if-overlaps.false c.count_claimant-claimants.ensures
-    (elim c.if-overlaps-2.branch [ then-overlaps-2 w ↦ w.first-is ∙ sym (note_room _ _ _ w.if-overlaps-2.true) | else-overlaps-2 w ↦ w.first-is ∙ sym (note_full _ _ _ w.if-overlaps-2.false) ])
+unfolding add_overlap run
+returns c = λ f.
+    let exact = overlap_exact c.args.log _ c.overlap_total-overlaps.ensures _ f (c.add.ensures f) _ c.in_ok-add.was in
+    sym (then_given f _ _ _ (overlap_given c.args.log _ c.overlap_total-overlaps.ensures _ f (c.add.ensures f) _ c.in_ok-add.was) ∙ rw (← exact, ← c.count_claimant-claimants.ensures)
+    (elim c.if-overlaps.branch [ then-overlaps w ↦ rw (w.first-is, note_room _ _ _ w.if-overlaps.true) | else-overlaps w ↦ rw (w.first-is, note_full _ _ _ w.if-overlaps.false) ]))

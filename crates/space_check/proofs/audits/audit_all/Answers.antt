@@ -2,10 +2,10 @@ use Rattle.space_check.specs.Check.{audit}
 use Rattle.report.proofs.StepLaws.{step_then, step_stop}
 use Rattle.space_check.proofs.audits.audit_all.Goals as goal
 
-pub returns-in-Refused : goal.returns-in-Refused
+pub returns-in_err-audit : goal.returns-in_err-audit
 unfolding audit
-returns-in-Refused c = step_stop ((rw c.nothing_audited.ensures at c.audit_ring-audited.ensures) _ _ _) _ _ _ c.in-Refused.is
+returns-in_err-audit c = step_stop ((rw c.nothing_audited-none.ensures at c.audit_ring.ensures) _ _ _) _ _ _ c.in_err-audit.was _ c.from_residual.ensures.1
 
-pub returns-in-Done : goal.returns-in-Done
+pub returns : goal.returns
 unfolding audit
-returns-in-Done c = step_then ((rw c.nothing_audited.ensures at c.audit_ring-audited.ensures) _ _ _) _ c.in-Done.is c.audit_blocks.ensures
+returns c = step_then ((rw c.nothing_audited-none.ensures at c.audit_ring.ensures) _ _ _) _ _ _ c.in_ok-audit.was c.audit_blocks.ensures

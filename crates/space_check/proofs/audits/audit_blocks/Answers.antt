@@ -2,10 +2,10 @@ use Rattle.space_check.specs.Check.{audit_blocks}
 use Rattle.report.proofs.StepLaws.{step_then, step_stop}
 use Rattle.space_check.proofs.audits.audit_blocks.Goals as goal
 
-pub returns-in-Refused : goal.returns-in-Refused
+pub returns-in_err-audit : goal.returns-in_err-audit
 unfolding audit_blocks
-returns-in-Refused c = step_stop c.audit_device-audited.ensures _ _ _ c.in-Refused.is
+returns-in_err-audit c = step_stop c.audit_device.ensures _ _ _ c.in_err-audit.was _ c.from_residual.ensures.1
 
-pub returns-in-Done : goal.returns-in-Done
+pub returns : goal.returns
 unfolding audit_blocks
-returns-in-Done c = step_then c.audit_device-audited.ensures _ c.in-Done.is (rw c.u64_of.ensures.is at c.audit_queue.ensures)
+returns c = step_then c.audit_device.ensures _ _ _ c.in_ok-audit.was (rw c.u64_of.ensures.is at c.audit_queue.ensures)

@@ -1,20 +1,27 @@
 use Rattle.blocks.specs.Blocks.{block_of}
+use Rattle.blocks.proofs.Laws.{is_refused, is_given}
 use Rattle.space_check.proofs.PassLaws.{objects_undescribed, objects_described}
 use Rattle.trees.proofs.ReadLaws.{walk_read}
-use Rattle.trees.proofs.VisitLaws.{same_run}
-use Rattle.report.proofs.StepLaws.{stays_refused, step_then, step_stop, stepped_done}
-use Rattle.nodes.specs.clauses.Answers.{description_as}
-use mathlib.Core.Path.{sym, ap, ◌∙◌}
+use Rattle.report.proofs.StepLaws.{stays_err, step_then, step_stop, stepped_ok, stepped_run}
+use mathlib.Core.Path.{sym}
 use Rattle.space_check.proofs.audits.claim_objects.Goals as goal
 
 pub claim_mappings_and_volumes-requires : goal.claim_mappings_and_volumes-requires
-claim_mappings_and_volumes-requires c = walk_read _ _ _ _ _ _ _ (stepped_done c.walk-walked.ensures c.in-Done.is)
+claim_mappings_and_volumes-requires c = walk_read _ _ _ _ _ _ _ (stepped_ok c.walk.ensures _ c.in_ok-log.was)
 
-pub returns-in-Refused : goal.returns-in-Refused
-returns-in-Refused c = stays_refused _ _ _ _ (objects_undescribed _ _ _ _ _ _ _ c.requires _ (sym (rw c.block.ensures at (c.describe-described.ensures (block_of c.args.image.now c.args.checkpoint.container.size))) ∙ ap description_as c.in-Refused.is))
+pub returns-in_err-description : goal.returns-in_err-description
+returns-in_err-description c =
+    let f = block_of c.args.image.now c.args.checkpoint.container.size in
+    stays_err _ _ _ _ (objects_undescribed _ _ _ _ _ _ _ c.requires _ (is_refused _ _ f _ (rw c.block-node.ensures at (c.describe.ensures f)) _ c.in_err-description.was)) _ c.from_residual.ensures.1
 
-pub returns-in-Refused-ending : goal.returns-in-Refused-ending
-returns-in-Refused-ending c = same_run _ (step_stop c.walk-walked.ensures _ _ _ c.in-Refused-ending.is) (sym (objects_described _ _ _ _ _ _ _ c.requires _ (sym (rw c.block.ensures at (c.describe-described.ensures (block_of c.args.image.now c.args.checkpoint.container.size))) ∙ ap description_as c.in-Given.is)))
+pub returns-in_err-log : goal.returns-in_err-log
+returns-in_err-log c =
+    let f = block_of c.args.image.now c.args.checkpoint.container.size in
+    stepped_run (step_stop c.walk.ensures _ _ _ c.in_err-log.was _ c.from_residual-in_err-log.ensures.1)
+    (sym (objects_described _ _ _ _ _ _ _ c.requires _ (is_given _ _ f _ (rw c.block-node.ensures at (c.describe.ensures f)) _ c.in_ok-description.was)))
 
-pub returns-in-Done : goal.returns-in-Done
-returns-in-Done c = same_run _ (step_then c.walk-walked.ensures _ c.in-Done.is c.claim_mappings_and_volumes.ensures) (sym (objects_described _ _ _ _ _ _ _ c.requires _ (sym (rw c.block.ensures at (c.describe-described.ensures (block_of c.args.image.now c.args.checkpoint.container.size))) ∙ ap description_as c.in-Given.is)))
+pub returns : goal.returns
+returns c =
+    let f = block_of c.args.image.now c.args.checkpoint.container.size in
+    stepped_run (step_then c.walk.ensures _ _ _ c.in_ok-log.was c.claim_mappings_and_volumes.ensures)
+    (sym (objects_described _ _ _ _ _ _ _ c.requires _ (is_given _ _ f _ (rw c.block-node.ensures at (c.describe.ensures f)) _ c.in_ok-description.was)))

@@ -1,11 +1,14 @@
-use Rattle.space_check.proofs.PassLaws.{map_refused, map_given}
+use Rattle.blocks.proofs.Laws.{at_err, at_ok}
 use Rattle.checkpoint.specs.Superblock.{object_map_address}
-use Rattle.blocks.specs.clauses.Answers.{address_as}
-use mathlib.Core.Path.{sym, ap, ◌∙◌}
+use Rattle.space_check.specs.Check.{load_parts}
+use Rattle.space_check.proofs.PassLaws.{map_same}
+use mathlib.Core.Path.{ap, ◌∙◌}
 use Rattle.space_check.proofs.load.load.Goals as goal
 
-pub returns-in-Refused : goal.returns-in-Refused
-returns-in-Refused c = sym (map_refused _ _ _ _ _ (c.object_map_address-a.ensures ∙ ap object_map_address c.block-sb.ensures) _ (sym c.load_object_map-root.ensures ∙ ap address_as c.in-Refused.is))
+pub returns-in_err-root : goal.returns-in_err-root
+unfolding load_parts
+returns-in_err-root c = at_err _ _ _ _ (c.load_object_map.ensures ∙ map_same _ _ _ _ (c.object_map_address-map.ensures ∙ ap object_map_address c.block-sb.ensures)) _ _ _ c.in_err-root.was _ c.from_residual.ensures.1
 
-pub returns-in-Given : goal.returns-in-Given
-returns-in-Given c = c.load_manager.ensures ∙ sym (map_given _ _ _ _ _ (c.object_map_address-a.ensures ∙ ap object_map_address c.block-sb.ensures) _ (sym c.load_object_map-root.ensures ∙ ap address_as c.in-Given.is))
+pub returns : goal.returns
+unfolding load_parts
+returns c = at_ok _ _ _ _ (c.load_object_map.ensures ∙ map_same _ _ _ _ (c.object_map_address-map.ensures ∙ ap object_map_address c.block-sb.ensures)) _ _ c.in_ok-root.was _ c.load_manager.ensures

@@ -1,10 +1,13 @@
-use Rattle.space_check.proofs.PassLaws.{pool_refused, pool_given}
-use Rattle.blocks.specs.clauses.Answers.{there_as}
-use mathlib.Core.Path.{sym, ap, ◌∙◌}
+use Rattle.blocks.specs.Reads.{run}
+use Rattle.blocks.proofs.Laws.{at_err, at_ok}
+use Rattle.space_check.specs.Check.{pool_part}
+use mathlib.Core.Path.{refl}
 use Rattle.space_check.proofs.load.load_pool.Goals as goal
 
-pub returns-in-Refused : goal.returns-in-Refused
-returns-in-Refused c = sym (pool_refused _ _ _ _ _ _ _ (sym c.load-seen.ensures ∙ ap (there_as _) c.in-Refused.is))
+pub returns-in_err-load : goal.returns-in_err-load
+unfolding pool_part
+returns-in_err-load c = at_err _ _ _ _ c.load.ensures _ _ _ c.in_err-load.was _ c.from_residual.ensures.1
 
-pub returns-in-There : goal.returns-in-There
-returns-in-There c = rw c.pool_place-pool.ensures (sym (pool_given _ _ _ _ _ _ _ (sym c.load-seen.ensures ∙ ap (there_as _) c.in-There.is)))
+pub returns : goal.returns
+unfolding pool_part run
+returns c = at_ok _ _ _ _ c.load.ensures _ _ c.in_ok-load.was _ (rw c.pool_place-pool.ensures refl)

@@ -6,13 +6,13 @@ use mathlib.Core.Path.{sym, ap, ◌∙◌}
 use Rattle.space_check.proofs.passes.check_in.Goals as goal
 
 pub check_taken-requires : goal.check_taken-requires
-check_taken-requires c = (c.requires, sym c.take_superblock-taken.ensures ∙ ap (taken_as _ _) c.in-Given.is)
+check_taken-requires c = (c.requires, sym c.take_superblock.ensures ∙ ap (taken_as _ _) c.in-Ok.is)
 
-pub returns-in-Refused : goal.returns-in-Refused
+pub returns-in-Err : goal.returns-in-Err
 unfolding pass
-returns-in-Refused c = let e = sym c.take_superblock-taken.ensures ∙ ap (taken_as _ _) c.in-Refused.is in
+returns-in-Err c = let e = sym c.take_superblock.ensures ∙ ap (taken_as _ _) c.in-Err.is in
     settled_early _ _ _ _ (then_refused _ _ (rest c.args.geometry c.args.map.now) _ e) (take_early _ _ _ e) _ c.refusal.ensures
 
-pub returns-in-Given : goal.returns-in-Given
+pub returns-in-Ok : goal.returns-in-Ok
 unfolding pass
-returns-in-Given c = c.check_taken.ensures ∙ ap (settle _ _) (sym (then_given _ _ (rest c.args.geometry c.args.map.now) _ (sym c.take_superblock-taken.ensures ∙ ap (taken_as _ _) c.in-Given.is)))
+returns-in-Ok c = c.check_taken.ensures ∙ ap (settle _ _) (sym (then_given _ _ (rest c.args.geometry c.args.map.now) _ (sym c.take_superblock.ensures ∙ ap (taken_as _ _) c.in-Ok.is)))

@@ -1,12 +1,11 @@
-use Rattle.space_check.proofs.PassLaws.{passed_is}
 use Rattle.space_check.specs.Check.{audit_and_claim}
 use Rattle.report.proofs.StepLaws.{step_then, step_stop}
 use Rattle.space_check.proofs.reports.audit_and_claim.Goals as goal
 
-pub returns-in-Refused : goal.returns-in-Refused
+pub returns-in_err-audit : goal.returns-in_err-audit
 unfolding audit_and_claim
-returns-in-Refused c = passed_is _ _ _ c.unreported.ensures (step_stop c.audit_all-audited.ensures _ _ _ c.in-Refused.is)
+returns-in_err-audit c = step_stop c.audit_all.ensures _ _ _ c.in_err-audit.was _ c.from_residual.ensures.1
 
-pub returns-in-Done : goal.returns-in-Done
+pub returns : goal.returns
 unfolding audit_and_claim
-returns-in-Done c = step_then c.audit_all-audited.ensures _ c.in-Done.is c.claim_and_report.ensures
+returns c = step_then c.audit_all.ensures _ _ _ c.in_ok-audit.was c.claim_and_report.ensures

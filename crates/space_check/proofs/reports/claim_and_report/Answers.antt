@@ -1,12 +1,12 @@
-use Rattle.space_check.proofs.PassLaws.{made, passed_is}
+use Rattle.space_check.proofs.PassLaws.{made}
 use Rattle.space_check.specs.Check.{claim_and_report}
 use Rattle.report.proofs.StepLaws.{step_stop}
 use Rattle.space_check.proofs.reports.claim_and_report.Goals as goal
 
-pub returns-in-Refused : goal.returns-in-Refused
+pub returns-in_err-log : goal.returns-in_err-log
 unfolding claim_and_report
-returns-in-Refused c = passed_is _ _ _ c.unreported.ensures (step_stop c.claim_all-claimed.ensures _ _ _ c.in-Refused.is)
+returns-in_err-log c = step_stop c.claim_all.ensures _ _ _ c.in_err-log.was _ c.from_residual.ensures.1
 
-pub returns-in-Done : goal.returns-in-Done
+pub returns : goal.returns
 unfolding claim_and_report
-returns-in-Done c = made c.claim_all-claimed.ensures _ _ c.in-Done.is c.report_of-report.ensures
+returns c = made c.claim_all.ensures _ _ _ c.in_ok-log.was c.report_of.ensures

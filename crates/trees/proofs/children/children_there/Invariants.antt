@@ -1,4 +1,4 @@
-use Prim.Native.Nat.{ℕ, ◌-◌, ◌≤◌}
+use Prim.Native.Nat.{ℕ, ◌-◌}
 use mathlib.Core.List.{List, []}
 use mathlib.Core.Path.{◌≡◌}
 use Rattle.trees.specs.clauses.Walks.{pointers_down}
@@ -6,7 +6,4 @@ use Rattle.trees.proofs.WalkLaws.{children_left}
 use Rattle.trees.proofs.children.children_there.Given as goal
 
 abbrev pub invariant-loop-i : goal.invariant-loop-i
-invariant-loop-i l = (l.i ≤ l.n) × ((f : ℕ → List ℕ) → children_left f l.description l.node (l.n - l.i) l.i (pointers_down l.description l.node l.i) ≡ children_left f l.description l.node l.n 0 [])
-
-abbrev pub decreases-loop-i : goal.decreases-loop-i
-decreases-loop-i l = l.n - l.i
+invariant-loop-i l = (f : ℕ → List ℕ) → children_left f l.description l.node (l.i-end - l.i) l.i (pointers_down l.description l.node l.i) ≡ children_left f l.description l.node l.i-end 0 []

@@ -1,13 +1,16 @@
-use Rattle.trees.proofs.ChildLaws.{look_none, look_unread, look_read}
-use Rattle.nodes.specs.clauses.Answers.{entry_as}
-use mathlib.Core.Path.{sym, ap, ◌∙◌}
+use Rattle.std.proofs.Common.{rules}
+use Rattle.blocks.proofs.Laws.{at_ok, at_err}
+use Rattle.blocks.specs.Reads.{run}
+use Rattle.trees.proofs.ChildLaws.{look_none, look_some}
+use mathlib.Core.Path.{refl, sym, ◌∙◌}
 use Rattle.trees.proofs.children.look_at.Goals as goal
 
 pub returns-then-left-eq0 : goal.returns-then-left-eq0
 returns-then-left-eq0 c = λ f. sym (look_none f _ _ _ _ c.if-left-eq0.true)
 
-pub returns-in-Refused : goal.returns-in-Refused
-returns-in-Refused c = λ f. sym (look_unread f _ _ _ _ c.if-left-eq0.false _ (sym (c.entry-found.ensures f) ∙ ap (entry_as _) c.in-Refused.is))
+pub returns-in_err-entry : goal.returns-in_err-entry
+returns-in_err-entry c = λ f. search (rules, at_err, c.entry.ensures f, c.in_err-entry.was) ∙ sym (look_some f _ _ _ _ c.if-left-eq0.false)
 
-pub returns-in-Given : goal.returns-in-Given
-returns-in-Given c = λ f. sym (look_read f _ _ _ _ c.if-left-eq0.false _ (sym (c.entry-found.ensures f) ∙ ap (entry_as _) c.in-Given.is))
+pub returns : goal.returns
+unfolding run
+returns c = λ f. at_ok _ _ f _ (c.entry.ensures f) _ _ c.in_ok-entry.was _ refl ∙ sym (look_some f _ _ _ _ c.if-left-eq0.false)

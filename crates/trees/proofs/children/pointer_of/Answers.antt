@@ -1,10 +1,9 @@
-use mathlib.Core.Path.{sym, ap, ◌∙◌}
-use Rattle.nodes.specs.clauses.Answers.{entry_as}
-use Rattle.trees.proofs.ChildLaws.{pointer_unread, pointer_read}
+use Rattle.std.proofs.Common.{rules}
+use Rattle.blocks.proofs.Laws.{at_ok, at_err}
 use Rattle.trees.proofs.children.pointer_of.Goals as goal
 
-pub returns-in-Refused : goal.returns-in-Refused
-returns-in-Refused c = λ f. sym (pointer_unread f _ _ _ _ (sym (c.entry-found.ensures f) ∙ ap (entry_as _) c.in-Refused.is))
+pub returns-in_err-entry : goal.returns-in_err-entry
+returns-in_err-entry c = λ f. search (rules, at_err, c.entry.ensures f, c.in_err-entry.was)
 
-pub returns-in-Given : goal.returns-in-Given
-returns-in-Given c = λ f. c.pointer.ensures f ∙ sym (pointer_read f _ _ _ _ (sym (c.entry-found.ensures f) ∙ ap (entry_as _) c.in-Given.is))
+pub returns : goal.returns
+returns c = λ f. search (rules, at_ok, c.entry.ensures f, c.in_ok-entry.was, c.pointer.ensures f)

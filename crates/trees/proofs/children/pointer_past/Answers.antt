@@ -1,14 +1,16 @@
-use Rattle.trees.proofs.ChildLaws.{past_unread, past_next, past_read}
-use Rattle.nodes.specs.clauses.Answers.{entry_as}
-use Rattle.blocks.specs.clauses.Answers.{there_as}
-use mathlib.Core.Path.{sym, ap, ◌∙◌}
+use Rattle.std.proofs.Common.{rules}
+use Rattle.blocks.proofs.Laws.{at_ok, at_err}
+use Rattle.nodes.specs.Scan.{pointer_past}
 use Rattle.trees.proofs.children.pointer_past.Goals as goal
 
-pub returns-in-Refused : goal.returns-in-Refused
-returns-in-Refused c = λ f. sym (past_unread f _ _ _ _ _ (sym (c.entry-found.ensures f) ∙ ap (entry_as _) c.in-Refused.is))
+pub returns-in_err-entry : goal.returns-in_err-entry
+unfolding pointer_past
+returns-in_err-entry c = λ f. search (rules, at_err, c.entry.ensures f, c.in_err-entry.was)
 
-pub returns-in-Refused-looked : goal.returns-in-Refused-looked
-returns-in-Refused-looked c = λ f. sym (past_next f _ _ _ _ _ (sym (c.entry-found.ensures f) ∙ ap (entry_as _) c.in-Given.is) _ (sym (c.look_at-looked.ensures f) ∙ ap (there_as tt) c.in-Refused-looked.is))
+pub returns-in_err-look_at : goal.returns-in_err-look_at
+unfolding pointer_past
+returns-in_err-look_at c = λ f. search (rules, at_ok, at_err, c.entry.ensures f, c.in_ok-entry.was, c.look_at.ensures f, c.in_err-look_at.was)
 
-pub returns-in-There : goal.returns-in-There
-returns-in-There c = λ f. c.pointer.ensures f ∙ sym (past_read f _ _ _ _ _ (sym (c.entry-found.ensures f) ∙ ap (entry_as _) c.in-Given.is) (sym (c.look_at-looked.ensures f) ∙ ap (there_as tt) c.in-There.is))
+pub returns : goal.returns
+unfolding pointer_past
+returns c = λ f. at_ok _ _ f _ (c.entry.ensures f) _ _ c.in_ok-entry.was _ (at_ok _ _ f _ (c.look_at.ensures f) _ _ c.in_ok-look_at.was _ (c.pointer.ensures f))

@@ -1,17 +1,14 @@
+use mathlib.Core.Path.{sym}
+use Rattle.blocks.proofs.Laws.{is_refused, is_given}
+use Rattle.report.proofs.StepLaws.{stepped_run, stays_ok, stays_err}
 use Rattle.trees.proofs.QueueLaws.{queue_skipped, queue_unread, queue_read}
-use Rattle.trees.proofs.VisitLaws.{visit_done, visit_refused, same_run}
-use Rattle.blocks.specs.clauses.Answers.{there_as}
-use mathlib.Core.Path.{sym, ap, ◌∙◌}
 use Rattle.trees.proofs.queues.scan_queue.Goals as goal
 
-pub returns-in-Nowhere : goal.returns-in-Nowhere
-returns-in-Nowhere c = visit_done _ _ _ _ c.done.ensures (queue_skipped _ _ _ _ _ _ _ c.lookup-mapped.ensures c.in-Nowhere.is)
+pub returns-in_default : goal.returns-in_default
+returns-in_default g c = stays_ok _ _ _ _ (queue_skipped _ _ _ _ _ _ _ c.lookup.ensures c.in_default.is)
 
-pub returns-in-Refused : goal.returns-in-Refused
-returns-in-Refused c = visit_refused _ _ _ _ _ c.refused.ensures (queue_unread _ _ _ _ _ _ _ c.lookup-mapped.ensures _ c.in-To.is _ (sym c.read_node-seen.ensures ∙ ap (there_as _) c.in-Refused.is))
+pub returns-in_err-read_node : goal.returns-in_err-read_node
+returns-in_err-read_node g c = stays_err _ _ _ _ (queue_unread _ _ _ _ _ _ _ c.lookup.ensures _ c.in-Some.is _ (is_refused _ _ _ _ c.read_node.ensures _ c.in_err-read_node.was)) _ c.from_residual.ensures.1
 
-pub shape_of-map : goal.shape_of-map
-shape_of-map c = c.scan_root.ensures.kept.long
-
-pub returns-in-There : goal.returns-in-There
-returns-in-There c = same_run _ c.scan_root.ensures (sym (queue_read _ _ _ _ _ _ _ c.lookup-mapped.ensures _ c.in-To.is _ (sym c.read_node-seen.ensures ∙ ap (there_as _) c.in-There.is)))
+pub returns : goal.returns
+returns g c = stepped_run c.scan_root.ensures (sym (queue_read _ _ _ _ _ _ _ c.lookup.ensures _ c.in-Some.is _ (is_given _ _ _ _ c.read_node.ensures _ c.in_ok-read_node.was)))

@@ -1,11 +1,16 @@
-use Rattle.volumes.proofs.LookupLaws.{above_greater, above_equal, above_less}
+use native.Mathlib.Omega.{arith}
+use borrow.Author.Tests.{lt-ltb, le-ltb, eq-eqb, ne_eqb}
+use Rattle.volumes.specs.Lookup.{is_above}
 use Rattle.volumes.proofs.lookup.is_above.Goals as goal
 
 pub returns-then-id-key_id : goal.returns-then-id-key_id
-returns-then-id-key_id c = above_greater _ _ _ _ c.if-id-key_id.true
+unfolding is_above
+returns-then-id-key_id c = simp (lt-ltb _ _ c.if-id-key_id.true)
 
 pub returns-then-key_id-id : goal.returns-then-key_id-id
-returns-then-key_id-id c = above_equal _ _ _ _ c.if-key_id-id.true
+unfolding is_above
+returns-then-key_id-id c = simp (le-ltb c.args.id.0 c.args.key_id (omega arith), eq-eqb _ _ c.if-key_id-id.true)
 
 pub returns-else-key_id-id : goal.returns-else-key_id-id
-returns-else-key_id-id c = above_less _ _ _ _ c.if-id-key_id.false c.if-key_id-id.false
+unfolding is_above
+returns-else-key_id-id c = simp (le-ltb _ _ c.if-id-key_id.false, ne_eqb _ _ c.if-key_id-id.false)

@@ -1,20 +1,36 @@
-use Rattle.volumes.proofs.LookupLaws.{along_unsearched, along_none, along_leaf, along_childless, along_down}
-use Rattle.blocks.specs.clauses.Answers.{block_as}
-use Rattle.blocks.specs.clauses.Answers.{number_as}
-use mathlib.Core.Path.{sym, ap, ◌∙◌}
+use mathlib.Core.Path.{refl, sym, ◌∙◌}
+use borrow.Author.Tests.{eq-eqb, ne_eqb}
+use Rattle.blocks.specs.Reads.{run}
+use Rattle.blocks.proofs.Laws.{at_ok}
+use Rattle.volumes.specs.Lookup.{lookup_from}
+use Rattle.volumes.specs.clauses.Answers.{along_turn}
+use Rattle.volumes.proofs.LookupLaws.{turn_err}
 use Rattle.volumes.proofs.lookup.turn.Goals as goal
 
+pub returns-in_err-n : goal.returns-in_err-n
+unfolding lookup_from
+returns-in_err-n c = rw (← c.block-node.ensures) (turn_err _ _ _ _ _ _ _ _ _ (c.search.ensures _) _ _ c.in_err-n.was _ c.from_residual.ensures.1)
+
 pub returns-then-n-eq0 : goal.returns-then-n-eq0
-returns-then-n-eq0 c = along_none _ _ _ _ _ _ _ c.block-node.ensures _ (sym (c.search-searched.ensures _) ∙ ap number_as c.in-Given.is) c.if-n-eq0.true
+unfolding lookup_from along_turn run
+returns-then-n-eq0 c = rw (← c.block-node.ensures) (at_ok _ _ _ _ (c.search.ensures _) _ _ c.in_ok-n.was _ (rw (eq-eqb _ 0 c.if-n-eq0.true) refl))
+
+pub returns-in_err-place : goal.returns-in_err-place
+unfolding lookup_from
+returns-in_err-place c = rw (← c.block-node.ensures) (at_ok _ _ _ _ (c.search.ensures _) _ _ c.in_ok-n.was _
+    (rw (ne_eqb _ 0 c.if-n-eq0.false, sym c.is_leaf.ensures ∙ c.if-is_leaf.true) (turn_err _ _ _ _ _ _ _ _ _ (c.entry.ensures _) _ _ c.in_err-place.was _ c.from_residual-in_err-place.ensures.1)))
 
 pub returns-then-is_leaf : goal.returns-then-is_leaf
-returns-then-is_leaf c = along_leaf _ _ _ _ _ _ _ c.block-node.ensures _ (sym (c.search-searched.ensures _) ∙ ap number_as c.in-Given.is) c.if-n-eq0.false (sym c.is_leaf.ensures ∙ c.if-is_leaf.true) _ c.leaf_at.ensures
+unfolding lookup_from along_turn run
+returns-then-is_leaf c = rw (← c.block-node.ensures) (at_ok _ _ _ _ (c.search.ensures _) _ _ c.in_ok-n.was _
+    (rw (ne_eqb _ 0 c.if-n-eq0.false, sym c.is_leaf.ensures ∙ c.if-is_leaf.true) (at_ok _ _ _ _ (c.entry.ensures _) _ _ c.in_ok-place.was _ refl)))
 
-pub returns-in-Refused : goal.returns-in-Refused
-returns-in-Refused c = along_unsearched _ _ _ _ _ _ _ c.block-node.ensures _ (sym (c.search-searched.ensures _) ∙ ap number_as c.in-Refused.is)
+pub returns-in_err-child : goal.returns-in_err-child
+unfolding lookup_from
+returns-in_err-child c = rw (← c.block-node.ensures) (at_ok _ _ _ _ (c.search.ensures _) _ _ c.in_ok-n.was _
+    (rw (ne_eqb _ 0 c.if-n-eq0.false, sym c.is_leaf.ensures ∙ c.if-is_leaf.false) (turn_err _ _ _ _ _ _ _ _ _ c.child_at.ensures _ _ c.in_err-child.was _ c.from_residual-in_err-child.ensures.1)))
 
-pub returns-in-Refused-child : goal.returns-in-Refused-child
-returns-in-Refused-child c = along_childless _ _ _ _ _ _ _ c.block-node.ensures _ (sym (c.search-searched.ensures _) ∙ ap number_as c.in-Given.is) c.if-n-eq0.false (sym c.is_leaf.ensures ∙ c.if-is_leaf.false) _ (sym c.child_at-child.ensures ∙ ap (block_as _) c.in-Refused-child.is)
-
-pub returns-in-Given-child : goal.returns-in-Given-child
-returns-in-Given-child c = along_down _ _ _ _ _ _ _ c.block-node.ensures _ (sym (c.search-searched.ensures _) ∙ ap number_as c.in-Given.is) c.if-n-eq0.false (sym c.is_leaf.ensures ∙ c.if-is_leaf.false) _ (sym c.child_at-child.ensures ∙ ap (block_as _) c.in-Given-child.is)
+pub returns : goal.returns
+unfolding lookup_from along_turn
+returns c = rw (← c.block-node.ensures) (at_ok _ _ _ _ (c.search.ensures _) _ _ c.in_ok-n.was _
+    (rw (ne_eqb _ 0 c.if-n-eq0.false, sym c.is_leaf.ensures ∙ c.if-is_leaf.false) (at_ok _ _ _ _ c.child_at.ensures _ _ c.in_ok-child.was _ refl)))

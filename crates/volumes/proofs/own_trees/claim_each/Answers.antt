@@ -1,29 +1,23 @@
-use Rattle.claims.proofs.Laws.{claimed_is}
-use Rattle.volumes.proofs.ClaimLaws.{each_done, each_first}
-use Rattle.report.proofs.StepLaws.{left_first, left_kept, left_on, left_refused, left_done, stepped_is}
 use native.Mathlib.Omega.{arith}
+use mathlib.Core.Path.{◌≡◌, refl, ap}
+use Prim.Native.Nat.{◌-◌}
+use Rattle.blocks.specs.Reads.{run}
+use Rattle.checkpoint.specs.Superblock.{volume_places}
+use Rattle.report.proofs.StepLaws.{left_on, left_err, left_done}
+use Rattle.volumes.specs.clauses.Answers.{claims_from}
+use Rattle.volumes.proofs.ClaimLaws.{claims_next}
 use Rattle.volumes.proofs.own_trees.claim_each.Goals as goal
 
-pub loop-at-init : goal.loop-at-init
-loop-at-init c = left_first _ _ _ _ _
+pub returns-in_err-log : goal.returns-in_err-log
+returns-in_err-log c =
+    left_err c.loop-place.invariant (rw c.volume_id.ensures at c.claim_place.ensures) _ _ c.in_err-log.was _ (ap (run _) (claims_next _ _ _ _ _ _ _ (rw c.volume_places-place-end.ensures.0 at c.loop-place-test.true))) _ c.from_residual.ensures.1
 
-pub place_next-claimed-requires : goal.place_next-claimed-requires
-place_next-claimed-requires c = ((omega arith, omega (arith, c.loop-at.invariant.inside, c.volume_places-n.ensures.1)), omega (arith, c.loop-at.invariant.inside, c.volume_places-n.ensures.1))
-
-pub shape_of-map-in-Refused : goal.shape_of-map-in-Refused
-shape_of-map-in-Refused c = (left_kept c.loop-at.invariant c.place_next-claimed.ensures).long
-
-pub returns-in-Refused : goal.returns-in-Refused
-returns-in-Refused c = claimed_is _ _ _ c.refused.ensures (stepped_is (left_refused c.loop-at.invariant c.place_next-claimed.ensures _ _ c.in-Refused.is) (each_first _ _ _ _ _ _ _ c.volume_places-n.ensures.0))
-
-pub loop-at-smaller : goal.loop-at-smaller
-loop-at-smaller c = (c.place_next-claimed.ensures.further _ c.in-On.is).0
-
-pub loop-at-preserved : goal.loop-at-preserved
-loop-at-preserved c = left_on c.loop-at.invariant c.place_next-claimed.ensures _ c.in-On.is
-
-pub shape_of-map : goal.shape_of-map
-shape_of-map c = c.loop-at.invariant.kept.long
+pub loop-place-preserved : goal.loop-place-preserved
+loop-place-preserved c =
+    left_on c.loop-place.invariant (rw c.volume_id.ensures at c.claim_place.ensures) _ c.in_ok-log.was _ (ap (run _) (claims_next _ _ _ _ _ _ _ (rw c.volume_places-place-end.ensures.0 at c.loop-place-test.true))) (omega (arith, c.loop-place-test.true, c.volume_places-place-end.ensures.0))
 
 pub returns : goal.returns
-returns c = claimed_is _ _ _ c.done.ensures (stepped_is (left_done c.loop-at.invariant (each_done _ _ _ _ _ _ _ _ c.loop-at-test.false)) (each_first _ _ _ _ _ _ _ c.volume_places-n.ensures.0))
+unfolding claims_from
+returns c =
+    let none : volume_places c.args.sb.now - c.loop-place.place ≡ 0 = omega (arith, c.loop-place-test.false, c.volume_places-place-end.ensures.0) in
+    left_done c.loop-place.invariant (rw none refl)

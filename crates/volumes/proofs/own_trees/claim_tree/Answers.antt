@@ -1,19 +1,22 @@
-use Rattle.claims.proofs.Laws.{claimed_refused}
-use Rattle.volumes.proofs.ClaimLaws.{tree_unread, tree_undescribed, tree_described}
-use Rattle.trees.proofs.VisitLaws.{same_run}
-use Rattle.nodes.specs.clauses.Answers.{description_as}
-use Rattle.blocks.specs.clauses.Answers.{there_as}
-use mathlib.Core.Path.{sym, ap, ◌∙◌}
+use mathlib.Core.Path.{ap, ◌∙◌}
+use Rattle.blocks.specs.Reads.{given}
+use Rattle.blocks.proofs.Laws.{is_given}
+use Rattle.nodes.proofs.Laws.{node_given}
+use Rattle.report.proofs.StepLaws.{read_stop, read_then}
+use Rattle.volumes.specs.Volumes.{claim_tree}
 use Rattle.volumes.proofs.own_trees.claim_tree.Goals as goal
 
+pub returns-in_err-node : goal.returns-in_err-node
+unfolding claim_tree
+returns-in_err-node c = read_stop _ _ _ c.read_node.ensures _ c.in_err-node.was c.from_residual.ensures.1
+
+pub returns-in_err-description : goal.returns-in_err-description
+unfolding claim_tree
+returns-in_err-description c = read_then _ _ _ c.read_node.ensures _ c.in_ok-node.was (read_stop _ _ _ (c.describe.ensures _) _ c.in_err-description.was c.from_residual-in_err-description.ensures.1)
+
 pub walk-requires : goal.walk-requires
-walk-requires c = sym c.read_node-seen.ensures ∙ ap (there_as _) c.in-There.is
+walk-requires c = let read = is_given _ _ _ _ c.read_node.ensures _ c.in_ok-node.was in read ∙ ap given (node_given _ _ _ _ read)
 
-pub returns-in-Refused : goal.returns-in-Refused
-returns-in-Refused c = claimed_refused _ _ _ _ _ c.refused.ensures (tree_unread _ _ _ _ _ _ (sym c.read_node-seen.ensures ∙ ap (there_as _) c.in-Refused.is))
-
-pub returns-in-Refused-described : goal.returns-in-Refused-described
-returns-in-Refused-described c = claimed_refused _ _ _ _ _ c.refused-in-Refused-described.ensures (tree_undescribed _ _ _ _ _ (sym c.read_node-seen.ensures ∙ ap (there_as _) c.in-There.is) _ c.block.ensures _ (sym (c.describe-described.ensures _) ∙ ap description_as c.in-Refused-described.is))
-
-pub returns-in-Given : goal.returns-in-Given
-returns-in-Given c = same_run _ c.walk.ensures (tree_described _ _ _ _ _ (sym c.read_node-seen.ensures ∙ ap (there_as _) c.in-There.is) _ c.block.ensures _ (sym (c.describe-described.ensures _) ∙ ap description_as c.in-Given.is))
+pub returns : goal.returns
+unfolding claim_tree
+returns c = read_then _ _ _ c.read_node.ensures _ c.in_ok-node.was (read_then _ _ _ (c.describe.ensures _) _ c.in_ok-description.was c.walk.ensures)

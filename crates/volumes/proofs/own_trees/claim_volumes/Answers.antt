@@ -1,12 +1,9 @@
-use Rattle.claims.proofs.Laws.{claimed_refused}
-use Rattle.volumes.proofs.ClaimLaws.{volumes_refused, volumes_given}
-use Rattle.trees.proofs.VisitLaws.{same_run}
-use Rattle.blocks.specs.clauses.Answers.{there_as}
-use mathlib.Core.Path.{sym, ap, ◌∙◌}
+use Rattle.report.proofs.StepLaws.{read_stop, read_then, stepped_run}
+use Rattle.volumes.proofs.ClaimLaws.{volumes_again}
 use Rattle.volumes.proofs.own_trees.claim_volumes.Goals as goal
 
-pub returns-in-Refused : goal.returns-in-Refused
-returns-in-Refused c = claimed_refused _ _ _ _ _ c.refused.ensures (volumes_refused _ _ _ _ _ _ _ (sym c.volumes_there-seen.ensures ∙ ap (there_as _) c.in-Refused.is))
+pub returns-in_err-volumes_there : goal.returns-in_err-volumes_there
+returns-in_err-volumes_there c = stepped_run (read_stop _ _ _ c.volumes_there.ensures _ c.in_err-volumes_there.was c.from_residual.ensures.1) (volumes_again _ _ _ _ _ _)
 
-pub returns-in-There : goal.returns-in-There
-returns-in-There c = same_run _ c.claim_each.ensures (volumes_given _ _ _ _ _ _ _ (sym c.volumes_there-seen.ensures ∙ ap (there_as _) c.in-There.is))
+pub returns : goal.returns
+returns c = stepped_run (read_then _ _ _ c.volumes_there.ensures _ c.in_ok-volumes_there.was c.claim_each.ensures) (volumes_again _ _ _ _ _ _)

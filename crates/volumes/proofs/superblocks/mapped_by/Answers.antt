@@ -1,17 +1,26 @@
-use Rattle.volumes.proofs.VolumeLaws.{mapped_ghost, mapped_short, mapped_other, mapped_same}
-use Rattle.blocks.specs.clauses.Answers.{number_as}
-use Rattle.nodes.specs.clauses.Answers.{value_in}
 use mathlib.Core.Path.{sym, ap, ◌∙◌}
+use borrow.Author.Tests.{eq-eqb, ne_eqb}
+use Rattle.blocks.specs.Reads.{refused, run}
+use Rattle.blocks.proofs.Laws.{at_err, at_ok, need_false, need_true}
+use Rattle.report.proofs.StepLaws.{passed_on}
+use Rattle.volumes.specs.Volumes.{mapped_by}
+use Rattle.volumes.proofs.VolumeLaws.{or_none, or_some}
 use Rattle.volumes.proofs.superblocks.mapped_by.Goals as goal
 
-pub returns-in-Ghost : goal.returns-in-Ghost
-returns-in-Ghost c = λ f. sym (mapped_ghost f _ _ _ (ap (value_in _) c.in-Ghost.is))
+pub returns-in_err-value : goal.returns-in_err-value
+unfolding mapped_by run
+returns-in_err-value c =
+    let ghost = or_none _ _ (sym c.ok_or.ensures.value ∙ c.in_err-value.was) in
+    λ f. passed_on _ _ _ c.from_residual.ensures.1 ∙ rw ghost.0 (ap refused ghost.1)
 
-pub returns-in-Refused : goal.returns-in-Refused
-returns-in-Refused c = λ f. sym (mapped_short f _ _ _ _ (ap (value_in _) c.in-At.is) _ (sym (c.field_in-first.ensures f) ∙ ap number_as c.in-Refused.is))
+pub returns-in_err-field_in : goal.returns-in_err-field_in
+unfolding mapped_by
+returns-in_err-field_in c = λ f. rw (or_some _ _ (sym c.ok_or.ensures.value ∙ c.in_ok-value.was)) (at_err _ _ f _ (c.field_in.ensures f) _ _ _ c.in_err-field_in.was _ c.from_residual-in_err-field_in.ensures.1)
 
-pub returns-then-i-id : goal.returns-then-i-id
-returns-then-i-id c = λ f. c.live_address.ensures f ∙ sym (mapped_same f _ _ _ _ (ap (value_in _) c.in-At.is) _ (sym (c.field_in-first.ensures f) ∙ ap number_as c.in-Given.is) c.if-i-id.true)
+pub returns-then-branch-id : goal.returns-then-branch-id
+unfolding mapped_by
+returns-then-branch-id c = λ f. rw (or_some _ _ (sym c.ok_or.ensures.value ∙ c.in_ok-value.was)) (at_ok _ _ f _ (c.field_in.ensures f) _ _ c.in_ok-field_in.was _ (c.live_address.ensures f ∙ sym (need_true f _ _ _ (eq-eqb _ _ c.if-branch-id.true))))
 
-pub returns-else-i-id : goal.returns-else-i-id
-returns-else-i-id c = λ f. sym (mapped_other f _ _ _ _ (ap (value_in _) c.in-At.is) _ (sym (c.field_in-first.ensures f) ∙ ap number_as c.in-Given.is) c.if-i-id.false)
+pub returns-else-branch-id : goal.returns-else-branch-id
+unfolding mapped_by
+returns-else-branch-id c = λ f. rw (or_some _ _ (sym c.ok_or.ensures.value ∙ c.in_ok-value.was)) (at_ok _ _ f _ (c.field_in.ensures f) _ _ c.in_ok-field_in.was _ (sym (need_false f _ _ _ (ne_eqb _ _ c.if-branch-id.false))))

@@ -1,13 +1,17 @@
-use Rattle.volumes.proofs.VolumeLaws.{read_refused, volume_read, read_other}
-use Rattle.blocks.specs.clauses.Answers.{there_as}
-use mathlib.Core.Path.{sym, ap, ◌∙◌}
+use mathlib.Core.Path.{sym, ◌∙◌}
+use Rattle.blocks.specs.Reads.{run}
+use Rattle.blocks.proofs.Laws.{at_err, at_ok, need_false, need_true}
+use Rattle.volumes.specs.Volumes.{read_volume}
 use Rattle.volumes.proofs.superblocks.read_volume.Goals as goal
 
-pub returns-in-Refused : goal.returns-in-Refused
-returns-in-Refused c = sym (read_refused _ _ _ _ (sym c.object_block-seen.ensures ∙ ap (there_as _) c.in-Refused.is))
+pub returns-in_err-object : goal.returns-in_err-object
+unfolding read_volume
+returns-in_err-object c = at_err _ _ _ _ c.object_block.ensures _ _ _ c.in_err-object.was _ c.from_residual.ensures.1
 
 pub returns-then-is_volume : goal.returns-then-is_volume
-returns-then-is_volume c = sym (volume_read _ _ _ (sym c.object_block-seen.ensures ∙ ap (there_as _) c.in-There.is) _ c.block-object.ensures (sym c.is_volume.ensures ∙ c.if-is_volume.true))
+unfolding read_volume run
+returns-then-is_volume c = at_ok _ _ _ _ c.object_block.ensures _ _ c.in_ok-object.was _ (sym (need_true _ _ _ _ (sym c.is_volume.ensures ∙ c.if-is_volume.true)))
 
 pub returns-else-is_volume : goal.returns-else-is_volume
-returns-else-is_volume c = sym (read_other _ _ _ (sym c.object_block-seen.ensures ∙ ap (there_as _) c.in-There.is) _ c.block-object.ensures (sym c.is_volume.ensures ∙ c.if-is_volume.false))
+unfolding read_volume
+returns-else-is_volume c = at_ok _ _ _ _ c.object_block.ensures _ _ c.in_ok-object.was _ (sym (need_false _ _ _ _ (sym c.is_volume.ensures ∙ c.if-is_volume.false)))

@@ -1,2 +1,0 @@
--- Laws of the queue's entries.
-pub mod Laws
