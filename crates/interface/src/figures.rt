@@ -62,8 +62,8 @@ fn put_all(figures: &mut [u64], at: usize, xs: &[u64])
     requires { at < 2 ^ 32 }
     ensures { Stores figures.old figures.new at (at + length xs.now) xs.now }
 {
-    for i in 0..xs.len() {
-        put(figures, at + i, xs[i]);
+    for (i, &figure) in xs.iter().enumerate() {
+        put(figures, at + i, figure);
     }
 }
 
@@ -71,9 +71,8 @@ fn put_problems(figures: &mut [u64], at: usize, problems: [Problem; LOGGED])
     requires { at < answer_figures }
     ensures { Stores figures.old figures.new at (at + 2 * logged) (flat_map problem_figures problems) }
 {
-    for i in 0..LOGGED {
-        let p = problems[i];
-        let numbers = [p.kind as u64, p.block];
+    for (i, problem) in problems.iter().enumerate() {
+        let numbers = [problem.kind as u64, problem.block];
         put_all(figures, at + PROBLEM_FIGURES * i, &numbers);
     }
 }
@@ -82,9 +81,8 @@ fn put_overlaps(figures: &mut [u64], at: usize, overlaps: [Overlap; LOGGED])
     requires { at < answer_figures }
     ensures { Stores figures.old figures.new at (at + 3 * logged) (flat_map overlap_figures overlaps) }
 {
-    for i in 0..LOGGED {
-        let o = overlaps[i];
-        let numbers = [o.block, o.owner as u64, o.claimant as u64];
+    for (i, overlap) in overlaps.iter().enumerate() {
+        let numbers = [overlap.block, overlap.owner as u64, overlap.claimant as u64];
         put_all(figures, at + OVERLAP_FIGURES * i, &numbers);
     }
 }

@@ -5,13 +5,14 @@ use lib.Seq.{set_out}
 use native.Mathlib.Decide.{dec_le}
 use Rattle.blocks.specs.Reads.{given, refused, run}
 use Rattle.blocks.specs.Blocks.{sum}
-use Rattle.blocks.proofs.Laws.{sum_fits, sum_passes}
+use Rattle.blocks.proofs.Laws.{sum_fits, sum_passes, then_given}
 use Rattle.blocks.specs.declared.Refusal.TheVariants.{Overflow}
 use Rattle.block_map.specs.BlockMap.{update}
 use Rattle.block_map.proofs.Laws.{update_set}
-use Rattle.report.specs.Report.{logged, sum_of, overlap_figure, overlap_total, count_claimant, note}
+use Rattle.report.specs.Report.{logged, sum_of, overlap_figure, overlap_total, count_claimant, note, add_overlap}
 use Rattle.blocks.specs.clauses.Answers.{outcome}
 use Rattle.blocks.specs.declared.Refusal.{Refusal}
+use Rattle.report.specs.declared.Overlap.{Overlap}
 use Rattle.report.specs.declared.OverlapLog.{OverlapLog}
 
 -- where x stands in a log with room, and in a full one
@@ -84,8 +85,14 @@ module _ (l : OverlapLog) (n : ℕ) (e : n ≡ overlap_figure l) (r : Result ℕ
   pub overlap_exact : (t : ℕ) → r ≡ Ok t → n ≡ sum_of l.claimants
   overlap_exact t q = omega (arith, overlap_room t q, e)
 
-  pub overlap_given : (t : ℕ) → r ≡ Ok t → run f (sum (overlap_total l) 1) ≡ given t
+  overlap_given : (t : ℕ) → r ≡ Ok t → run f (sum (overlap_total l) 1) ≡ given t
   overlap_given t q = ap (λ m. run f (sum m 1)) (sym (overlap_exact t q)) ∙ (sym h ∙ ap outcome q)
+
+  -- the log once there was room
+  pub overlap_added : (o : Overlap) (t : ℕ) → r ≡ Ok t → (claimants : List ℕ) → claimants ≡ count_claimant o.claimant l.claimants → (first : List Overlap) → first ≡ note n o l.first
+      → given (record { claimants = claimants; first = first }) ≡ run f (add_overlap o l)
+  unfolding add_overlap run
+  overlap_added o t q claimants p first e = rw (p, e, overlap_exact t q) (sym (then_given f (sum (overlap_total l) 1) _ t (overlap_given t q)))
 
   pub overlap_refused : (x : Refusal) → r ≡ Err x → run f (sum (overlap_total l) 1) ≡ refused x
   overlap_refused x q = go (dec_le (2 ^ 64 - 1) n)

@@ -17,9 +17,6 @@ returns-then-len-size c = let start = c in
     let image = start.args.image.now in
     c.part_of-then-len-size.ensures ∙ part_past image 0 (length image) (start.args.block * start.args.size) start.args.size (omega arith) (begins_past (length image) start.args.size start.args.block (omega arith) c.if-len-size.true)
 
-pub overflow_mul-start : goal.overflow_mul-start
-overflow_mul-start c = record { fits = omega (arith, begins_inside (length c.args.image.now) c.args.size c.args.block (omega arith) (omega arith)) }
-
 pub returns : goal.returns
 unfolding block_of
 returns c = c.part_of-2.ensures

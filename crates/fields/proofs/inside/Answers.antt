@@ -14,7 +14,3 @@ overflow_add-v c = let l = c in
 pub loop-k-preserved : goal.loop-k-preserved
 loop-k-preserved c = let l = c in
     (search rules, byte_above l.args.bytes.now l.args.at l.loop-k.k l.loop-k.v c.wide.result (omega arith) l.loop-k.invariant.1 c.wide.ensures.0 c.wide.ensures.1)
-
-pub returns : goal.returns
-returns c = let e : c.loop-k.k ≡ c.args.width = omega arith in
-    rw (← e) c.loop-k.invariant.1

@@ -7,6 +7,3 @@ returns-then-n-at c = number_past _ _ _ (omega arith)
 
 pub returns-then-left-most : goal.returns-then-left-most
 returns-then-left-most c = number_rest _ _ _ _ (omega (arith, c.least-most.ensures)) c.inside.ensures
-
-pub returns : goal.returns
-returns c = rw (← c.least-most.ensures) c.inside-2.ensures

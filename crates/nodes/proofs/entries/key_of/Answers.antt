@@ -5,6 +5,3 @@ use Rattle.nodes.proofs.entries.key_of.Goals as goal
 
 pub returns-then-node-slot : goal.returns-then-node-slot
 returns-then-node-slot c = λ f. sym (part_refused f _ _ _ (omega arith))
-
-pub returns : goal.returns
-returns c = λ f. rw c.keys_at-keys.ensures.0 at (c.cut.ensures f)

@@ -8,15 +8,6 @@ use Rattle.nodes.proofs.entries.variable_slot.Goals as goal
 pub returns-then-not-fits : goal.returns-then-not-fits
 returns-then-not-fits c = λ f. sym (variable_outside f _ _ (room_missing _ _ _ _ c.fits.ensures (ap not c.if-not-fits.true)))
 
-pub overflow_add-e : goal.overflow_add-e
-overflow_add-e c = omega (arith, room_there c.args.at 8 _ _ c.fits.ensures (ap not c.if-not-fits.false))
-
-pub overflow_add-e-2 : goal.overflow_add-e-2
-overflow_add-e-2 c = omega (arith, room_there c.args.at 8 _ _ c.fits.ensures (ap not c.if-not-fits.false))
-
-pub overflow_add-e-3 : goal.overflow_add-e-3
-overflow_add-e-3 c = omega (arith, room_there c.args.at 8 _ _ c.fits.ensures (ap not c.if-not-fits.false))
-
 pub returns : goal.returns
 returns c = let tested = c in
     λ f. sym (variable_given f _ _ _ c.u16_of-koff.ensures.is (room_there _ _ _ _ tested.fits.ensures (ap not tested.if-not-fits.false)) c.u16_of-klen.ensures.is c.u16_of-voff.ensures.is c.u16_of-vlen.ensures.is)

@@ -1,9 +1,7 @@
-use Rattle.std.proofs.Common.{sym, arith, ◌∙◌, ap, rules}
-use Rattle.std.specs.Prelude.{IsErrAnd}
-use Rattle.blocks.specs.Reads.{run, given}
-use Rattle.blocks.proofs.Laws.{then_given, then_refused}
+use Rattle.std.proofs.Common.{sym, arith, ◌∙◌}
+use Rattle.blocks.proofs.Laws.{then_refused}
 use Rattle.report.specs.Report.{add_overlap}
-use Rattle.report.proofs.Laws.{note_room, note_full, overlap_room, overlap_exact, overlap_given, overlap_refused}
+use Rattle.report.proofs.Laws.{note_room, note_full, overlap_room, overlap_added, overlap_refused}
 use Rattle.report.proofs.StepLaws.{passed_on}
 use Rattle.report.proofs.logs.add_overlap.Goals.{then-overlaps, else-overlaps}
 use Rattle.report.proofs.logs.add_overlap.Goals as goal
@@ -17,8 +15,6 @@ count_claimant-claimants-requires c =
     omega (arith, overlap_room c.args.log _ c.overlap_total-overlaps.ensures _ _ (c.add.ensures (λ n. c.args.log.claimants)) _ c.in_ok-add.was, c.overlap_total-overlaps.ensures)
 
 pub returns : goal.returns
-unfolding add_overlap run
 returns c = λ f.
-    let exact = overlap_exact c.args.log _ c.overlap_total-overlaps.ensures _ f (c.add.ensures f) _ c.in_ok-add.was in
-    sym (then_given f _ _ _ (overlap_given c.args.log _ c.overlap_total-overlaps.ensures _ f (c.add.ensures f) _ c.in_ok-add.was) ∙ rw (← exact, ← c.count_claimant-claimants.ensures)
-    (elim c.if-overlaps.branch [ then-overlaps w ↦ rw (w.first-is, note_room _ _ _ w.if-overlaps.true) | else-overlaps w ↦ rw (w.first-is, note_full _ _ _ w.if-overlaps.false) ]))
+    overlap_added c.args.log _ c.overlap_total-overlaps.ensures _ f (c.add.ensures f) c.args.overlap _ c.in_ok-add.was _ c.count_claimant-claimants.ensures _
+    (elim c.if-overlaps.branch [ then-overlaps w ↦ w.first-is ∙ sym (note_room _ _ _ w.if-overlaps.true) | else-overlaps w ↦ w.first-is ∙ sym (note_full _ _ _ w.if-overlaps.false) ])

@@ -6,9 +6,6 @@ use mathlib.Core.Path.{◌≡◌, refl, ap}
 use Rattle.blocks.specs.Reads.{run}
 use Rattle.space_check.proofs.areas.claim_areas.Goals as goal
 
-pub loop-kind-init : goal.loop-kind-init
-loop-kind-init c = left_first _ _ _ _ _
-
 pub returns-in_err-log : goal.returns-in_err-log
 returns-in_err-log c =
     stepped_run (left_err c.loop-kind.invariant (c.claim.ensures _) _ _ c.in_err-log.was _ (ap (run _) (areas_turn _ _ _ _ _ _ (omega arith) (omega arith) _ refl _ c.area_of-area.ensures)) _ c.from_residual.ensures.1)

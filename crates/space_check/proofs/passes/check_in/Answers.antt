@@ -5,9 +5,6 @@ use Rattle.blocks.proofs.Laws.{then_given, then_refused}
 use mathlib.Core.Path.{sym, ap, ◌∙◌}
 use Rattle.space_check.proofs.passes.check_in.Goals as goal
 
-pub check_taken-requires : goal.check_taken-requires
-check_taken-requires c = (c.requires, sym c.take_superblock.ensures ∙ ap (taken_as _ _) c.in-Ok.is)
-
 pub returns-in-Err : goal.returns-in-Err
 unfolding pass
 returns-in-Err c = let e = sym c.take_superblock.ensures ∙ ap (taken_as _ _) c.in-Err.is in

@@ -1,4 +1,0 @@
-use Rattle.nodes.proofs.node.is_fixed.Goals as goal
-
-pub returns : goal.returns
-returns c = rw c.u16_of.ensures.is at c.has_bit.ensures
