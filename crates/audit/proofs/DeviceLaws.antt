@@ -1,19 +1,22 @@
--- Laws of lists of addresses: their blocks one at a time, and what the main device lists.
-use Rattle.std.proofs.Common.{Bool, true, false, List, ◌≡◌, refl, ℕ, ◌+◌, ◌-◌, ◌*◌, ◌≤◌, ◌<◌, arith, add-zero}
+-- Laws of lists of addresses: their blocks one at a time, an address block's list, and what the main device lists.
+use Rattle.std.proofs.Common.{Bool, true, false, List, ◌≡◌, refl, sym, ℕ, ◌+◌, ◌-◌, ◌*◌, ◌≤◌, ◌<◌, arith, Result, add-zero}
 use Rattle.fields.specs.Fields.{num}
-use Rattle.blocks.specs.Reads.{Reads, done, ◌>>=◌}
+use Rattle.blocks.specs.Reads.{Reads, Outcome, done, given, run, ◌>>=◌}
 use Rattle.blocks.specs.declared.Address.{Address}
 use Rattle.blocks.specs.declared.Container.{Container}
+use Rattle.blocks.specs.declared.Refusal.{Refusal}
 use Rattle.manager.specs.Manager.{list_from, listed, addresses_of}
 use Rattle.manager.specs.clauses.Lists.{values, held, listed_in, addresses_in}
 use Rattle.manager.specs.clauses.Place.{placed}
 use Rattle.manager.specs.declared.AddressList.{AddressList}
 use Rattle.manager.specs.declared.Manager.{Manager}
-use Rattle.block_map.specs.BlockMap.{Marked}
+use Rattle.block_map.specs.BlockMap.{Marked, update, used}
+use Rattle.report.specs.clauses.Steps.{Stepped}
 use Rattle.pool.specs.Pool.{Pool}
-use Rattle.audit.specs.Audit.{audit_info, audit_each, audit_address, audit_listed}
+use Rattle.audit.specs.Audit.{audit_info, audit_each, enter_address, audit_address, audit_listed}
+use Rattle.audit.specs.clauses.Answers.{audited, addresses_on}
 use Rattle.audit.specs.declared.Audit.{Audit}
-use Rattle.audit.proofs.Laws.{none_left, one_less}
+use Rattle.audit.proofs.Laws.{none_left, one_less, entered_then}
 
 -- the blocks of a list of addresses from place i on, of n
 module _ (visit : Address → Marked Audit → Reads (Marked Audit)) (b : List ℕ) (off n i : ℕ) (s : Marked Audit) where
@@ -39,6 +42,18 @@ module _ (f : ℕ → List ℕ) (c : Container) (l : AddressList) where
 
   pub device_list : (m : Manager) → l ≡ listed_in (placed f c.size m) m → list_from 8 (held f c.size l.holder) l.count l.at ≡ listed (placed f c.size m)
   device_list m is = rw is refl
+
+-- a list of addresses, read whole
+abbrev addresses_read : (ℕ → List ℕ) → Container → AddressList → Outcome (List ℕ)
+addresses_read f c l = run f (list_from 8 (held f c.size l.holder) l.count l.at)
+
+-- an address block whose list is there
+module _ (f : ℕ → List ℕ) (c : Container) (p : Pool) (a : Address) (map : List ℕ) (audit : Audit) (l : AddressList) (is : l ≡ addresses_in (f a.0) a) where
+  pub address_there : {count : ℕ} {r : Result Audit Refusal} {between after : List ℕ} → given (addresses_on f c l) ≡ addresses_read f c l → a.0 < count → between ≡ update used a.0 map
+      → Stepped f count r between after (audit_each (audit_info c p) (addresses_on f c l) (audited between audit))
+      → Stepped f count r map after (enter_address c p a (audited map audit) (f a.0))
+  unfolding enter_address
+  address_there q below e h = entered_then a map audit below e (addresses_of (f a.0)) _ (audit_each (audit_info c p)) (sym (rw is at q)) (rw is at h)
 
 -- what the main device lists
 module _ (c : Container) (p : Pool) (l : List ℕ) (s : Marked Audit) (has : Bool) where

@@ -10,6 +10,7 @@ use Rattle.block_map.specs.BlockMap.{Marked, update, used}
 use Rattle.block_map.proofs.Laws.{kept_then, kept_update}
 use Rattle.report.specs.Report.{add_problem}
 use Rattle.report.specs.clauses.Steps.{SteppedBy, Stepped}
+use Rattle.report.proofs.StepLaws.{given_then}
 use Rattle.audit.specs.Audit.{with_problems, unless, enter}
 use Rattle.audit.specs.clauses.Answers.{audited}
 use Rattle.audit.specs.declared.Audit.{Audit}
@@ -37,6 +38,12 @@ pub entered : {f : ℕ → List ℕ} {count : ℕ} {r : Result Audit Refusal} {b
     → between ≡ update used a map → a < count → Stepped f count r map after (rest (enter a (audited map audit)))
 unfolding enter
 entered rest h e below = used_then (rw e at h) _ _ refl below
+
+-- what a block that is entered as used lists, once it is read whole
+module _ {f : ℕ → List ℕ} {count : ℕ} {r : Result Audit Refusal} {between after : List ℕ} (a : Address) (map : List ℕ) (audit : Audit) (below : a.0 < count) (e : between ≡ update used a.0 map) where
+  pub entered_then : {L : Type 0} (q : Reads L) (l : L) (rest : L → Marked Audit → Reads (Marked Audit)) → run f q ≡ given l → Stepped f count r between after (rest l (audited between audit))
+      → Stepped f count r map after (q >>= λ l. rest l (enter a.0 (audited map audit)))
+  entered_then q l rest g h = given_then (entered (rest l) h e below) q _ l g refl
 
 -- a problem, by the test that it waits on
 module _ (ok : Bool) (kind a : ℕ) (s : Marked Audit) where

@@ -13,6 +13,7 @@ use manager::Chunk;
 use report::Cursor;
 
 // A set bit's block marked, where the container has it.
+#[inline(never)]
 fn mark_set(map: &mut [u8], container: Container, start: u64, bit: u64) -> Result<(), Refusal>
     ensures { Marks map container result (mark_set container start bit) }
 {
@@ -24,7 +25,9 @@ fn mark_set(map: &mut [u8], container: Container, start: u64, bit: u64) -> Resul
     Ok(())
 }
 
-// The bits from a cursor on, with the zeros before them: a set one's block is marked, a clear one is counted.
+// The bits from a cursor on, with the zeros before them: a set one's block is marked, and what isn't set is a zero.
+// Neither is inlined, so that a clear bit takes as few steps as can be.
+#[inline(never)]
 fn mark_rest(
     map: &mut [u8],
     container: Container,
@@ -36,15 +39,14 @@ fn mark_rest(
     requires { Within from × (before + from.left < 2 ^ 64) }
     ensures { MarksAs map container before result (bits_left container bits start from) }
 {
-    let mut zeros = before;
+    let mut ones: u64 = 0;
     for bit in from.next..from.next + from.left {
         if fields::bit_at(bits, bit) {
             mark_set(map, container, start, bit)?;
-        } else {
-            zeros += 1;
+            ones += 1;
         }
     }
-    Ok(zeros)
+    Ok(before + (from.left - ones))
 }
 
 // The bits of so many blocks from start on: a byte at a time where none can be refused, then one by one.

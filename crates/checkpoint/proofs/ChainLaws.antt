@@ -8,7 +8,6 @@ use native.Mathlib.Nat.{add-zero, add-suc, add-mod_right, min-eq_left, min-eq_ri
 use native.Mathlib.Decide.{dec_le}
 use native.Mathlib.Omega.{arith}
 use lib.Dec.{ltb, eqb}
-use lib.ListN.{length}
 use borrow.Author.Tests.{lt-ltb, le-ltb, eq-eqb, ne_eqb}
 use Rattle.fields.specs.Choice.{choose}
 use Rattle.blocks.specs.Reads.{Reads, Outcome, given, refused, run}

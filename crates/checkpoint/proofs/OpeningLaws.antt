@@ -6,9 +6,10 @@ use Prim.Native.Nat.{ℕ, zero, suc, ◌+◌, ◌*◌, ◌-◌, ◌%◌, ◌^◌
 use native.Mathlib.Omega.{arith}
 use lib.Pow.{pow-add, pow_mono}
 use lib.Dec.{leb, ltb, eqb}
-use borrow.Author.Tests.{leb-true, ltb-true, eqb-true}
-use Rattle.blocks.specs.Reads.{given, run, no_blocks}
+use borrow.Author.Tests.{le-leb, lt-leb, lt-ltb, leb-true, ltb-true, eqb-true}
+use Rattle.blocks.specs.Reads.{given, refused, run, no_blocks, need, ◌>>=◌}
 use Rattle.blocks.proofs.Laws.{and_left, and_right, need_held}
+use Rattle.blocks.specs.declared.Refusal.TheVariants.{ShortMap}
 use Rattle.checkpoint.specs.Superblock.{block_count}
 use Rattle.checkpoint.specs.Geometry.{least_size, power_from, size_allowed, allowed, geometry}
 use Rattle.checkpoint.specs.declared.Geometry.{Geometry}
@@ -37,6 +38,12 @@ module _ (n : ℕ) where
 pub allowed_size : (n : ℕ) → size_allowed n ≡ true → Allowed n
 unfolding size_allowed
 allowed_size n e = from_allowed n 5 12 (omega arith) (omega arith) e
+
+-- where refusal 6 is given, after 3 to 5
+pub open_room : (len room : ℕ) (g : Geometry) → size_allowed g.size ≡ true → 0 < g.count → g.count ≤ 2 ^ 32 - 1 → g.count * g.size ≤ len → room < g.count
+    → run no_blocks (allowed len room g) ≡ refused ShortMap
+unfolding run allowed need ◌>>=◌
+open_room len room g s some few whole h = simp (s, lt-ltb _ _ some, le-leb _ _ few, le-leb _ _ whole, lt-leb _ _ h)
 
 -- what refusals 1 to 8 leave
 pub record Opens (len room : ℕ) (g : Geometry) : Type 0 where

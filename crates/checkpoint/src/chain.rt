@@ -2,13 +2,13 @@
 ghost use Rattle.std.specs.Prelude.{◌≡◌, ℕ, ◌<◌, ◌^◌, pred, min};
 ghost use Rattle.blocks.specs.Reads.{run};
 ghost use Rattle.blocks.specs.Blocks.{block_of};
-ghost use Rattle.blocks.specs.clauses.Images.{blocks_in};
+ghost use Rattle.blocks.specs.clauses.Images.{bytes, blocks_in};
 ghost use Rattle.checkpoint.specs.Superblock.{descriptor_length};
 ghost use Rattle.checkpoint.specs.Map.{map_count, mapping_at as mapping_of, mappings_of, belongs_to, ends_chain, chain, lookup as lookup_of};
 ghost use Rattle.checkpoint.specs.clauses.InPlace.{Turn, turns, link_of, test_turn, look_turn, lookup_in, mapped_in, loads as loads_of};
 
 use crate::{Checkpoint, Geometry, Mapping, superblock};
-use blocks::{Address, ObjectId, Reader};
+use blocks::{Address, ObjectId};
 use std::ops::ControlFlow;
 
 const CHECKPOINT_MAP: u64 = 12;
@@ -93,21 +93,28 @@ fn walk<T: Copy, F: Fn(u64) -> ControlFlow<T>>(n: u64, last: T, turn: F) -> T
 // The chain of map blocks that the superblock sb names, in the ring of the descriptor area.
 #[derive(Clone, Copy)]
 pub(crate) struct Chain<'a> {
-    reader: Reader<'a>,
+    image: &'a [u8],
+    size: u64,
     geometry: Geometry,
     sb: &'a [u8],
 }
 
 impl<'a> Chain<'a> {
-    pub(crate) fn of(reader: Reader<'a>, geometry: Geometry, superblock: Address) -> Chain<'a>
-        ensures of_reader { result.reader ≡ reader.entry }
+    pub(crate) fn of(
+        image: &'a [u8],
+        size: u64,
+        geometry: Geometry,
+        superblock: Address,
+    ) -> Chain<'a>
+        ensures of_image { (result.image ≡ image.entry) × (result.size ≡ size) }
         ensures of_geometry { result.geometry ≡ geometry }
-        ensures of_superblock { result.sb.now ≡ block_of reader.entry.image.now reader.entry.size superblock.0 }
+        ensures of_superblock { result.sb.now ≡ block_of (bytes image) size superblock.0 }
     {
         Chain {
-            reader,
+            image,
+            size,
             geometry,
-            sb: reader.block(superblock),
+            sb: blocks::block(image, size, superblock),
         }
     }
 
@@ -133,12 +140,12 @@ impl<'a> Chain<'a> {
     // Whether it loads, where its block at an index tells.
     fn test(self, index: u64) -> ControlFlow<bool>
         requires { (0 < self.geometry.ring) × (index < 2 ^ 32) }
-        ensures { result ≡ test_turn (block_of self.entry.reader.image.now self.entry.reader.size) self.entry.geometry self.entry.sb.now index }
+        ensures { result ≡ test_turn (block_of self.entry.image.now self.entry.size) self.entry.geometry self.entry.sb.now index }
     {
         let Some(address) = self.link(index) else {
             return ControlFlow::Break(false);
         };
-        let block = self.reader.block(address);
+        let block = blocks::block(self.image, self.size, address);
         if !belongs_to(self.sb, block) {
             return ControlFlow::Break(false);
         }
@@ -151,7 +158,7 @@ impl<'a> Chain<'a> {
 
     pub(crate) fn loads(self) -> bool
         requires { 0 < self.geometry.ring }
-        ensures { result ≡ loads_of (run (block_of self.entry.reader.image.now self.entry.reader.size) (chain self.entry.geometry self.entry.sb.now)) }
+        ensures { result ≡ loads_of (run (block_of self.entry.image.now self.entry.size) (chain self.entry.geometry self.entry.sb.now)) }
     {
         walk(self.chain_blocks(), true, |k| self.test(k))
     }
@@ -159,12 +166,12 @@ impl<'a> Chain<'a> {
     // What its map has for an id, where its block at an index tells.
     fn look(self, id: ObjectId, index: u64) -> ControlFlow<Option<Mapping>>
         requires { (0 < self.geometry.ring) × (index < 2 ^ 32) }
-        ensures { result ≡ look_turn (block_of self.entry.reader.image.now self.entry.reader.size) self.entry.geometry self.entry.sb.now id index }
+        ensures { result ≡ look_turn (block_of self.entry.image.now self.entry.size) self.entry.geometry self.entry.sb.now id index }
     {
         let Some(address) = self.link(index) else {
             return ControlFlow::Break(None);
         };
-        let block = self.reader.block(address);
+        let block = blocks::block(self.image, self.size, address);
         let mapped = lookup_in_block(block, id);
         if mapped.is_some() || ends_chain(block) {
             ControlFlow::Break(mapped)
@@ -175,7 +182,7 @@ impl<'a> Chain<'a> {
 
     // The entry of an id in its map; it was loaded before, and isn't summed again.
     fn lookup(self, id: ObjectId) -> Option<Mapping>
-        ensures { result ≡ lookup_in (block_of self.entry.reader.image.now self.entry.reader.size) self.entry.geometry self.entry.sb.now id }
+        ensures { result ≡ lookup_in (block_of self.entry.image.now self.entry.size) self.entry.geometry self.entry.sb.now id }
     {
         walk(self.chain_blocks(), None, |k| self.look(id, k))
     }
@@ -185,6 +192,11 @@ impl<'a> Chain<'a> {
 pub fn lookup(image: &[u8], checkpoint: Checkpoint, id: ObjectId) -> Option<Mapping>
     ensures { result ≡ mapped_in (blocks_in image.entry checkpoint.container) checkpoint id }
 {
-    let reader = Reader::over(image, checkpoint.container.size);
-    Chain::of(reader, checkpoint.geometry, checkpoint.superblock).lookup(id)
+    Chain::of(
+        image,
+        checkpoint.container.size,
+        checkpoint.geometry,
+        checkpoint.superblock,
+    )
+    .lookup(id)
 }

@@ -13,7 +13,7 @@ ghost use Rattle.checkpoint.specs.clauses.Answers.{Takes};
 use crate::block_zero::MAGIC;
 use crate::chain::Chain;
 use crate::{Candidate, Geometry, need, superblock};
-use blocks::{Address, Container, Reader, Refusal};
+use blocks::{Address, Container, Refusal};
 
 const SUPERBLOCK: u64 = 1;
 
@@ -84,7 +84,6 @@ pub fn take_superblock(image: &[u8], geometry: Geometry) -> Result<Address, Refu
     requires { geometry.base + geometry.ring < 2 ^ 64 }
     ensures { Takes image geometry result }
 {
-    let reader = Reader::over(image, geometry.size);
     let mut last = None;
     let mut left = geometry.ring;
     loop {
@@ -95,7 +94,7 @@ pub fn take_superblock(image: &[u8], geometry: Geometry) -> Result<Address, Refu
             break Err(Refusal::NoCheckpoint);
         };
         let address = Address(geometry.base + best.at);
-        if Chain::of(reader, geometry, address).loads() {
+        if Chain::of(image, geometry.size, geometry, address).loads() {
             break Ok(address);
         }
         last = Some(best);

@@ -1,5 +1,5 @@
 -- Laws of claims: what each step of a definition gives, by the answer before it.
-use Rattle.std.specs.Prelude.{Err, Ok, Result}
+use Rattle.std.specs.Prelude.{Err, Ok, Result, Some}
 use mathlib.Core.Path.{◌≡◌, refl, sym, ap, ◌∙◌}
 use mathlib.Core.Bool.{true, false}
 use mathlib.Core.List.{List}
@@ -7,10 +7,16 @@ use Prim.Native.Nat.{ℕ, zero, suc, ◌+◌, ◌-◌, ◌%◌, ◌<◌, ◌≤�
 use native.Mathlib.Decide.{dec_le}
 use native.Mathlib.Omega.{arith}
 use lib.ListN.{get_or}
-use Rattle.blocks.specs.Reads.{Reads, done, run, given, ◌>>=◌}
+use Rattle.fields.specs.Choice.{choose}
+use Rattle.blocks.specs.Reads.{Reads, done, run, given, refused, ◌>>=◌}
 use Rattle.blocks.specs.clauses.Answers.{Always, outcome, outcome_by}
+use Rattle.blocks.specs.declared.Container.{Container}
 use Rattle.blocks.specs.declared.Refusal.{Refusal}
 use Rattle.blocks.proofs.Laws.{then_given, then_refused}
+use Rattle.nodes.specs.ObjectMap.{is_deleted}
+use Rattle.nodes.specs.clauses.Answers.{part_in, entry_in}
+use Rattle.nodes.specs.declared.Part.{Part}
+use Rattle.nodes.specs.declared.EntryPlace.{EntryPlace}
 use Rattle.block_map.specs.BlockMap.{Marked, update, owner_of, owned_by}
 use Rattle.block_map.proofs.Laws.{kept_same, kept_update}
 use Rattle.report.specs.Report.{no_overlaps, add_overlap}
@@ -18,7 +24,7 @@ use Rattle.report.specs.clauses.Steps.{Stepped}
 use Rattle.report.specs.declared.Cursor.{Cursor}
 use Rattle.report.specs.declared.OverlapLog.{OverlapLog}
 use Rattle.report.proofs.StepLaws.{stepped_ok, unlogged_first, unlogged_more}
-use Rattle.claims.specs.Claims.{claim_block, claim_from}
+use Rattle.claims.specs.Claims.{volume_superblock, claim_block, claim_from, claim, mapped_address, claim_mapped, claim_mapping}
 use Rattle.claims.specs.clauses.Unlogged.{takes}
 use Rattle.claims.specs.clauses.Answers.{owned, ClaimedAs, OwnedUpTo, blocks_left, end_of}
 
@@ -86,3 +92,25 @@ clipped kind start n count end next s p q = rw (← p) (go (dec_le start end))
     go : Dec (start ≤ end) → claim_from kind (end - next) next s ≡ claim_from kind (end - start) start s
     go (yes h) = let same : next ≡ start = omega arith in rw same refl
     go (no h) = claim_done kind next s (end - next) (omega arith) ∙ sym (claim_done kind start s (end - start) (omega arith))
+
+-- a mapping that isn't deleted claims the address in its value
+module _ (c : Container) (s : Marked OverlapLog) (b : List ℕ) (e : EntryPlace) (p : Part) (at : e.value ≡ Some p) where
+  by_address : claim_mapping c s (entry_in b e) ≡ mapped_address (part_in b e.key) (part_in b p) >>= λ a. choose (is_deleted (part_in b p)) (λ _. done s) (λ _. claim c volume_superblock a 1 s)
+  unfolding claim_mapping claim_mapped
+  by_address = rw at refl
+
+  module _ (f : ℕ → List ℕ) where
+    pub mapping_refused : (r : Refusal) → run f (mapped_address (part_in b e.key) (part_in b p)) ≡ refused r → run f (claim_mapping c s (entry_in b e)) ≡ refused r
+    mapping_refused r q = ap (run f) by_address ∙ then_refused f _ _ r q
+
+    module _ (a : ℕ) (q : run f (mapped_address (part_in b e.key) (part_in b p)) ≡ given a) where
+      pub mapping_deleted : is_deleted (part_in b p) ≡ true → run f (claim_mapping c s (entry_in b e)) ≡ given s
+      unfolding run
+      mapping_deleted t = ap (run f) by_address ∙ then_given f _ _ a q ∙ rw t refl
+
+      pub mapping_live : is_deleted (part_in b p) ≡ false → run f (claim_mapping c s (entry_in b e)) ≡ run f (claim c volume_superblock a 1 s)
+      mapping_live t = ap (run f) by_address ∙ then_given f _ _ a q ∙ rw t refl
+
+-- a claim's step as the code answers it
+pub claimed_is : {f : ℕ → List ℕ} {count : ℕ} {before after : List ℕ} {p : Reads (Marked OverlapLog)} (r s : Result OverlapLog Refusal) → r ≡ s → Stepped f count s before after p → Stepped f count r before after p
+claimed_is r s q h = rw q h

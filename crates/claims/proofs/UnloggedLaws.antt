@@ -1,21 +1,26 @@
 -- Laws of claims that overlap nothing.
-use Rattle.std.specs.Prelude.{Ok, Result}
+use Rattle.std.specs.Prelude.{Ok, Result, Some}
 use mathlib.Core.Path.{◌≡◌, refl, ap, ◌∙◌}
-use mathlib.Core.Bool.{Bool, true}
+use mathlib.Core.Bool.{Bool, true, false}
 use mathlib.Core.List.{List}
 use Prim.Native.Nat.{ℕ, zero, suc, ◌+◌, ◌-◌, ◌%◌, ◌<◌, ◌≤◌}
 use native.Mathlib.Omega.{arith}
-use Rattle.blocks.specs.Reads.{Reads, run, given, ◌>>=◌}
+use Rattle.blocks.specs.Reads.{Reads, run, no_blocks, given, ◌>>=◌}
 use Rattle.blocks.specs.clauses.Answers.{Always, outcome_by}
+use Rattle.blocks.specs.declared.Container.{Container}
 use Rattle.blocks.specs.declared.Refusal.{Refusal}
 use Rattle.blocks.proofs.Laws.{then_given, is_given, and_left, and_right}
+use Rattle.nodes.specs.ObjectMap.{is_deleted}
+use Rattle.nodes.specs.clauses.Answers.{part_in, entry_in}
+use Rattle.nodes.specs.declared.EntryPlace.{EntryPlace}
+use Rattle.nodes.specs.declared.Part.{Part}
 use Rattle.block_map.specs.BlockMap.{Marked, update, owned_by}
 use Rattle.block_map.specs.clauses.Maps.{Kept, Unlogged}
 use Rattle.block_map.proofs.Laws.{update_other, kept_same, kept_then, kept_update, was_made}
 use Rattle.report.specs.declared.OverlapLog.{OverlapLog}
-use Rattle.claims.specs.Claims.{claim_block, claim_from}
+use Rattle.claims.specs.Claims.{volume_superblock, claim_block, claim_from, mapped_address}
 use Rattle.claims.specs.clauses.Answers.{owned}
-use Rattle.claims.specs.clauses.Unlogged.{takes, taken_from, owned_from}
+use Rattle.claims.specs.clauses.Unlogged.{takes, taken_from, owned_from, unlogged_claim, unlogged_mapped, unlogged_mapping}
 use Rattle.claims.proofs.Laws.{taken}
 
 -- a block further on is held as before
@@ -65,3 +70,13 @@ all_made count kind start end map after h k t o f =
   where
     small : after ≡ owned_from kind map (end - start) start
     small = o ∙ ap (λ x. owned_from x map (end - start) start) (omega arith)
+
+-- whether a mapping's claim is made without the log, once its address was read: a deleted one's always is
+module _ (c : Container) (b : List ℕ) (place : EntryPlace) (map : List ℕ) (p : Part) (at : place.value ≡ Some p) (a : ℕ) (q : run no_blocks (mapped_address (part_in b place.key) (part_in b p)) ≡ given a) where
+  pub deleted_alone : is_deleted (part_in b p) ≡ true → true ≡ unlogged_mapping c (entry_in b place) map
+  unfolding unlogged_mapped
+  deleted_alone t = rw at (rw q (rw t refl))
+
+  pub address_there : is_deleted (part_in b p) ≡ false → unlogged_claim c volume_superblock a 1 map ≡ unlogged_mapping c (entry_in b place) map
+  unfolding unlogged_mapped
+  address_there t = rw at (rw q (rw t refl))

@@ -7,12 +7,9 @@ use Rattle.report.specs.declared.Answer.{Answer}
 use Rattle.listing_text.specs.Text.{numeral, Shortest}
 use Rattle.listing_text.specs.Listing.{answer_lines, listing_of}
 use Rattle.listing_text.specs.clauses.Writing.{Written, up_to, put, put_all}
-use Rattle.listing_text.proofs.Laws.{put_none}
+use Rattle.listing_text.proofs.Laws.{glue, put_none}
 use Rattle.listing_text.proofs.Digits.{shortest}
 use Rattle.listing_text.proofs.Room.{most_bytes, listing_fits}
-
-glue : {a a' b b' c c' : List ℕ} → a ≡ a' → b ≡ b' → c ≡ c' → (a ++ b) ++ c ≡ (a' ++ b') ++ c'
-glue p q r = λ i. (p i ++ q i) ++ r i
 
 abbrev bytes_of : Written → List ℕ
 bytes_of (up_to bytes end) = bytes

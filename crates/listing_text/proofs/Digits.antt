@@ -1,10 +1,12 @@
 -- Numbers in their shortest form: their digits counted, and written from the last to the first; and that no form is shorter.
-use Rattle.std.proofs.Common.{◌≡◌, ℕ, zero, suc, ◌+◌, ◌-◌, ◌*◌, ◌/◌, ◌%◌, ◌^◌, ◌<◌, ◌≤◌, max, Bool, true, false, ltb, List, [], ◌∷◌, ◌++◌, length, drop, set, sym, refl, ap, ◌∙◌, append_assoc, lt_of_lt_of_le, lt_irrefl, mul_comm, one-mul, pow-suc, div-one, add-one, arith, le-ltb, lt-ltb}
+use Rattle.std.proofs.Common.{◌≡◌, ℕ, zero, suc, ◌+◌, ◌-◌, ◌*◌, ◌/◌, ◌%◌, ◌^◌, ◌<◌, ◌≤◌, max, Bool, true, false, ltb, List, [], ◌∷◌, ◌++◌, length, take, drop, set, sym, refl, ap, ◌∙◌, append_assoc, lt_of_lt_of_le, lt_irrefl, mul_comm, one-mul, pow-suc, div-one, add-one, arith, length-append, length-take-le, drop_at, le-ltb, lt-ltb}
 use Rattle.std.proofs.lemmas.List.{drop-set}
+use lib.Seq.{paste, take-length, take-set-le, set_split}
 use native.Mathlib.Nat.{pow-le-pow_right, pow-le-pow_left, pow-zero, div-div-eq-div-mul}
 use native.Mathlib.Decide.{dec_le, dec_lt}
 use Rattle.fields.specs.Choice.{pick}
 use Rattle.listing_text.specs.Text.{glyph, digits, places_from, most_digits, places, numeral, Fewest, Shortest}
+use Rattle.listing_text.proofs.Laws.{glue}
 
 digits_length : (base k n : ℕ) → length (digits base k n) ≡ k
 unfolding digits
@@ -31,16 +33,45 @@ digits_last base (suc k) n = λ i. glyph (above i % base) ∷ digits_last base k
     above : n / base ^ suc k ≡ n / base / base ^ k
     above = ap (λ (d : ℕ). n / d) (pow-suc base k ∙ mul_comm (base ^ k) base) ∙ sym (div-div-eq-div-mul n base (base ^ k))
 
--- digits from the last to the first: one more is written, or none is left
+-- the last of some bytes at its place, and then the others
+last_put : (l xs : List ℕ) (x at k : ℕ) → length xs ≡ k → at + k < length l
+    → paste (set l (at + k) x) at xs k ≡ paste l at (xs ++ (x ∷ [])) (k + 1)
+last_put l xs x at k e h =
+    glue (take-set-le at l (at + k) x (omega arith)) (ap (λ (n : ℕ). take n xs) (sym e) ∙ take-length xs) (ap (drop (at + k)) (set_split l (at + k) x h) ∙ drop_at (take (at + k) l) _ (at + k) (length-take-le (at + k) l (omega arith)))
+    ∙ sym (glue {a = take at l} refl (ap (λ (n : ℕ). take n (xs ++ (x ∷ []))) long ∙ take-length (xs ++ (x ∷ []))) (ap (λ (n : ℕ). drop n l) after) ∙ shift (take at l) xs x (drop (suc (at + k)) l))
+  where
+    long : k + 1 ≡ length (xs ++ (x ∷ []))
+    long = simp length-append (omega arith)
+
+    after : at + (k + 1) ≡ suc (at + k)
+    after = omega arith
+
+    shift : (a b : List ℕ) (y : ℕ) (c : List ℕ) → (a ++ (b ++ (y ∷ []))) ++ c ≡ (a ++ b) ++ (y ∷ c)
+    shift a b y c = ap (λ (l : List ℕ). l ++ c) (sym (append_assoc a b (y ∷ []))) ∙ append_assoc (a ++ b) (y ∷ []) c
+
+-- digits from the last to the first, in any buffer from any place on: one more is written
+pub digit_more : (base k n : ℕ) (l after whole : List ℕ) (at x : ℕ) → paste l at (digits base k n) k ≡ whole → after ≡ set l (at + (k - 1)) x → 0 < k → at + k ≤ length l
+    → x ≡ glyph (n % base) → paste after at (digits base (k - 1) (n / base)) (k - 1) ≡ whole
+digit_more base (suc k) n l after whole at x w e some room is =
+    rw (e, is, p) (last_put l (digits base k (n / base)) (glyph (n % base)) at k (digits_length base k (n / base)) (omega arith) ∙ ap (λ (t : List ℕ). paste l at t (k + 1)) (sym (digits_last base k n)) ∙ ap (paste l at (digits base (suc k) n)) q ∙ w)
+  where
+    p : suc k - 1 ≡ k
+    p = omega arith
+
+    q : k + 1 ≡ suc k
+    q = omega arith
+digit_more base zero n l after whole at x w e some room is = absurd (omega arith)
+
+-- the same in a buffer that they fill: one more is written, or none is left
 module _ (base rest : ℕ) (out : List ℕ) where
-  pub digit_more : (i x : ℕ) → 0 < i → i ≤ length out → x ≡ glyph (rest % base)
+  pub digit_next : (i x : ℕ) → 0 < i → i ≤ length out → x ≡ glyph (rest % base)
       → digits base (i - 1) (rest / base) ++ drop (i - 1) (set out (i - 1) x) ≡ digits base i rest ++ drop i out
-  digit_more (suc k) x some inside e =
+  digit_next (suc k) x some inside e =
       let less : suc k - 1 ≡ k = omega arith in
       rw (less, e, drop-set out k (glyph (rest % base)) (omega arith), add-one k)
       (sym (append_assoc (digits base k (rest / base)) (glyph (rest % base) ∷ []) (drop (suc k) out))
       ∙ ap (λ (l : List ℕ). l ++ drop (suc k) out) (sym (digits_last base k rest)))
-  digit_more zero x some inside e = absurd (omega arith)
+  digit_next zero x some inside e = absurd (omega arith)
 
   pub digits_done : (i : ℕ) → i ≡ 0 → out ≡ digits base i rest ++ drop i out
   unfolding digits

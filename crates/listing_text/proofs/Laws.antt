@@ -13,6 +13,9 @@ use Rattle.listing_text.specs.Listing.{claimant_if, claimants_from, claimant_lin
 use Rattle.listing_text.specs.declared.page.Page.{Page}
 use Rattle.listing_text.specs.clauses.Writing.{Written, up_to, put, put_all, on, Adds}
 
+pub glue : {a a' b b' c c' : List ℕ} → a ≡ a' → b ≡ b' → c ≡ c' → (a ++ b) ++ c ≡ (a' ++ b') ++ c'
+glue p q r = λ i. (p i ++ q i) ++ r i
+
 -- a piece, and no room for it
 module _ (text out : List ℕ) (at : ℕ) where
   pub put_whole : (after : List ℕ) (end : ℕ) → end ≡ at + length text → end ≤ length out → after ≡ paste out at text (length text)
@@ -51,6 +54,10 @@ pub ◌then◌ : {a b c : Page} {ts us : List (List ℕ)} → Adds a b ts → Ad
     record { same = q.same ∙ p.same; written = q.written ∙ ap (put_all us) p.written ∙ sym (all_then ts us _) }
 
 infixl 5 ◌then◌
+-- lines of a figure that the code has made
+pub by_figure : {a b : Page} (lines : ℕ → List (List ℕ)) {n m : ℕ} → n ≡ m → Adds a b (lines n) → Adds a b (lines m)
+by_figure {a = a} {b = b} lines e p = rw (← e) p
+
 -- a loop that puts pieces: some of all are left
 pub record Left (before now : Page) (rest all : List (List ℕ)) : Type 0 where
   pub same : now.out.ghost_name ≡ before.out.ghost_name

@@ -1,7 +1,7 @@
 -- Every listing has at most `most_bytes` bytes.
 use Rattle.std.specs.Prelude.{Err, Ok, Result}
 use Rattle.blocks.specs.declared.Refusal.{Refusal}
-use Rattle.std.proofs.Common.{◌≡◌, ℕ, zero, suc, ◌+◌, ◌-◌, ◌*◌, ◌≤◌, min, Bool, true, false, T, eqb, leb, List, [], ◌∷◌, ◌++◌, length, get_or, take, sym, zero-le, le_trans, le_refl, zero-add, arith, lit≤, length-append, length-take}
+use Rattle.std.proofs.Common.{◌≡◌, ℕ, zero, suc, ◌+◌, ◌*◌, ◌≤◌, min, Bool, true, false, T, eqb, leb, List, [], ◌∷◌, ◌++◌, length, get_or, take, sym, zero-le, le_trans, le_refl, zero-add, arith, lit≤, length-append, length-take}
 use mathlib.Core.List.{flat_map, flatten}
 use Rattle.fields.specs.Choice.{pick}
 use Rattle.blocks.specs.Refusals.{number_of}

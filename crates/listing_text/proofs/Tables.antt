@@ -1,6 +1,7 @@
 -- A table of texts in one list of bytes, a newline behind each: its rows are the texts.
 use Rattle.std.proofs.Common.{◌≡◌, ℕ, zero, suc, ◌+◌, Bool, true, false, T, eqb, List, [], ◌∷◌, ◌++◌, length, get_or, sym, refl, ap, ◌∙◌, add-one, take_at}
 use Rattle.fields.specs.Choice.{pick}
+use Rattle.listing_text.specs.Lines.{kind_names, kind_name, problem_formats, problem_format}
 use Rattle.listing_text.specs.clauses.Tables.{newline, past_row, rows_from, row_length, row_of}
 
 -- no byte is left to pass
@@ -52,3 +53,12 @@ row_is (t ∷ ts) h zero = take_at t (newline ∷ table ts) _ (sym (first_length
 row_is (t ∷ ts) h (suc k) =
     let p : T (plain t) × T (all plain ts) = both (plain t) (all plain ts) h in
     rw (first_past t (table ts) p.0) (row_is ts p.1 k)
+
+-- so it is with both tables of the listing: no text of theirs has a newline in it
+pub kind_row : (kind : ℕ) → row_of kind (table kind_names) ≡ kind_name kind
+unfolding kind_names kind_name
+kind_row kind = row_is kind_names tt kind
+
+pub problem_row : (kind : ℕ) → row_of kind (table problem_formats) ≡ problem_format kind
+unfolding problem_formats problem_format
+problem_row kind = row_is problem_formats tt kind

@@ -1,6 +1,7 @@
 // Texts by their numbers.
-ghost use Rattle.std.specs.Prelude.{◌≡◌, [], map, slice_index_or};
+ghost use Rattle.std.specs.Prelude.{◌≡◌, map};
 ghost use Rattle.listing_text.specs.Lines.{kind_name, problem_format};
+ghost use Rattle.listing_text.specs.clauses.Tables.{text_of};
 
 const KIND_NAMES: [&[u8]; 12] = [
     b"",
@@ -28,7 +29,7 @@ const PROBLEM_FORMATS: [&[u8]; 6] = [
 
 // The text of a number, none where the table has no such number.
 fn text_at(texts: &[&'static [u8]], number: usize) -> &'static [u8]
-    ensures { result.now ≡ slice_index_or (map (λ t. t.now) texts.now) number [] }
+    ensures { result.now ≡ text_of (map (λ t. t.now) texts.now) number }
 {
     texts.get(number).copied().unwrap_or(b"")
 }

@@ -20,6 +20,7 @@ use Rattle.blocks.proofs.Laws.{then_given, then_refused, need_true, need_false}
 use Rattle.manager.specs.Manager.{list_from}
 use Rattle.manager.specs.Chunks.{chunk_at, chunks_from}
 use Rattle.manager.specs.clauses.Lists.{values, records}
+use Rattle.manager.specs.declared.Chunk.{Chunk}
 
 -- past the end all bytes count 0
 num_past : (w : ℕ) (b : List ℕ) (off : ℕ) → length b ≤ off → num w b off ≡ 0
@@ -91,6 +92,17 @@ module _ (f : ℕ → List ℕ) (b : List ℕ) where
           → run f (chunks_from b (suc n) e) ≡ refused OutsideBytes
       go (no l) again = need_false f _ _ _ (lt-leb (e + 32) (length b) (omega arith))
       go (yes l) again = need_true f _ _ _ (le-leb _ _ l) ∙ then_refused f _ _ _ (again (omega arith) (omega arith))
+
+pub records_length : (b : List ℕ) (n e : ℕ) → length (records b n e) ≡ n
+unfolding records
+records_length b zero e = refl
+records_length b (suc n) e = ap suc (records_length b n (e + 32))
+
+pub records_at : (b : List ℕ) (n e i : ℕ) (none : Chunk) → i < n → get_or (records b n e) i none ≡ chunk_at b (e + 32 * i)
+unfolding records
+records_at b zero e i none h = elim h [ ]
+records_at b (suc n) e zero none h = ap (chunk_at b) (omega arith)
+records_at b (suc n) e (suc i) none h = records_at b n (e + 32) i none (omega arith) ∙ ap (chunk_at b) (omega arith)
 
 -- a record from its fields, and one past the end
 module _ (b : List ℕ) (e : ℕ) where

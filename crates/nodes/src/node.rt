@@ -144,7 +144,10 @@ fn parse(node: &[u8]) -> Result<(), Refusal>
     if !plain {
         return Err(Refusal::WrongKind);
     }
-    if sound { Ok(()) } else { Err(Refusal::BadNode) }
+    if !sound {
+        return Err(Refusal::BadNode); // of a plain one alone
+    }
+    Ok(())
 }
 
 // The node at an address, whole.
@@ -161,7 +164,7 @@ pub fn describe(node: &[u8]) -> Result<Description, Refusal>
     ensures { Always (outcome result) (describe_of (bytes node)) }
 {
     if !is_root(node) {
-        return Err(Refusal::BadNode);
+        return Err(Refusal::BadNode); // whatever else it is
     }
     let at = description_at(node);
     let flags = fields::u32_of(node, at);

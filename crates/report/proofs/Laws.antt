@@ -3,14 +3,14 @@ use Rattle.std.specs.Prelude.{Err, Ok, Result}
 use Rattle.std.proofs.Common.{◌≡◌, ℕ, zero, suc, ◌+◌, ◌-◌, ◌^◌, ◌<◌, ◌≤◌, min, List, [], ◌∷◌, length, get_or, drop, set, sym, refl, ap, ◌∙◌, zero-le, add-one, arith, length-set, drop_of_length-le, drop-cons, le-ltb, lt-ltb}
 use lib.Seq.{set_out}
 use native.Mathlib.Decide.{dec_le}
-use Rattle.blocks.specs.Reads.{given, refused, run}
+use Rattle.blocks.specs.Reads.{done, given, refused, run, ◌>>=◌}
 use Rattle.blocks.specs.Blocks.{sum}
-use Rattle.blocks.proofs.Laws.{sum_fits, sum_passes, then_given}
+use Rattle.blocks.proofs.Laws.{sum_fits, sum_passes, then_given, then_refused}
 use Rattle.blocks.specs.declared.Refusal.TheVariants.{Overflow}
 use Rattle.block_map.specs.BlockMap.{update}
 use Rattle.block_map.proofs.Laws.{update_set}
 use Rattle.report.specs.Report.{logged, sum_of, overlap_figure, overlap_total, count_claimant, note, add_overlap}
-use Rattle.blocks.specs.clauses.Answers.{outcome}
+use Rattle.blocks.specs.clauses.Answers.{outcome, Always}
 use Rattle.blocks.specs.declared.Refusal.{Refusal}
 use Rattle.report.specs.declared.Overlap.{Overlap}
 use Rattle.report.specs.declared.OverlapLog.{OverlapLog}
@@ -24,6 +24,15 @@ module _ {A : Type 0} (total : ℕ) (x : A) (first : List A) where
   pub note_full : logged ≤ total → note total x first ≡ first
   unfolding note
   note_full h = simp (le-ltb _ _ h)
+
+-- one more counted, and refused where the count can't grow
+module _ {L : Type 0} (total : ℕ) (next : ℕ → L) where
+  pub count_more : total < 2 ^ 64 - 1 → (log : L) → log ≡ next (total + 1) → Always (given log) (sum total 1 >>= λ n. done (next n))
+  unfolding run
+  count_more h log e f = ap given e ∙ sym (then_given f (sum total 1) (λ n. done (next n)) _ (sum_fits f total 1 (omega arith)))
+
+  pub count_refused : 2 ^ 64 - 1 ≤ total → Always (refused Overflow) (sum total 1 >>= λ n. done (next n))
+  count_refused h f = sym (then_refused f _ _ _ (sum_passes f total 1 (omega arith)))
 
 -- numbers added up, one after the other, as far as 64 bits go
 module _ (ns : List ℕ) (i total : ℕ) where
@@ -70,6 +79,18 @@ counted_most kind claimants = most (kind - 1) claimants
     most (suc place) (n ∷ ns) = omega (arith, most place ns)
 
 -- one overlap more, where their total can grow and where it can't
+module _ (o : Overlap) (l : OverlapLog) (n : ℕ) (e : n ≡ overlap_figure l) where
+  pub overlap_more : (claimants : List ℕ) (first : List Overlap) → (n ≡ 2 ^ 64 - 1 → ⊥) → claimants ≡ count_claimant o.claimant l.claimants → first ≡ note n o l.first
+      → Always (given (record { claimants = claimants; first = first })) (add_overlap o l)
+  unfolding add_overlap
+  overlap_more claimants first room p q =
+      let exact : n ≡ sum_of l.claimants = omega arith in
+      count_more _ _ (omega arith) _ (rw (p, q, exact) refl)
+
+  pub overlap_refused : n ≡ 2 ^ 64 - 1 → Always (refused Overflow) (add_overlap o l)
+  unfolding add_overlap
+  overlap_refused full = count_refused _ _ (omega arith)
+
 -- a count of overlaps that has room for one more is the sum itself, and one that hasn't is refused like the sum
 module _ (l : OverlapLog) (n : ℕ) (e : n ≡ overlap_figure l) (r : Result ℕ Refusal) (f : ℕ → List ℕ) (h : outcome r ≡ run f (sum n 1)) where
   overlap_full : 2 ^ 64 - 1 ≤ n → run f (sum n 1) ≡ refused Overflow
@@ -85,17 +106,13 @@ module _ (l : OverlapLog) (n : ℕ) (e : n ≡ overlap_figure l) (r : Result ℕ
   pub overlap_exact : (t : ℕ) → r ≡ Ok t → n ≡ sum_of l.claimants
   overlap_exact t q = omega (arith, overlap_room t q, e)
 
-  overlap_given : (t : ℕ) → r ≡ Ok t → run f (sum (overlap_total l) 1) ≡ given t
-  overlap_given t q = ap (λ m. run f (sum m 1)) (sym (overlap_exact t q)) ∙ (sym h ∙ ap outcome q)
-
   -- the log once there was room
   pub overlap_added : (o : Overlap) (t : ℕ) → r ≡ Ok t → (claimants : List ℕ) → claimants ≡ count_claimant o.claimant l.claimants → (first : List Overlap) → first ≡ note n o l.first
       → given (record { claimants = claimants; first = first }) ≡ run f (add_overlap o l)
-  unfolding add_overlap run
-  overlap_added o t q claimants p first e = rw (p, e, overlap_exact t q) (sym (then_given f (sum (overlap_total l) 1) _ t (overlap_given t q)))
+  overlap_added o t q claimants p first is = overlap_more o l n e claimants first (λ full. omega (overlap_room t q, full, arith)) p is f
 
-  pub overlap_refused : (x : Refusal) → r ≡ Err x → run f (sum (overlap_total l) 1) ≡ refused x
-  overlap_refused x q = go (dec_le (2 ^ 64 - 1) n)
+  pub overlap_err : (x : Refusal) → r ≡ Err x → run f (sum (overlap_total l) 1) ≡ refused x
+  overlap_err x q = go (dec_le (2 ^ 64 - 1) n)
     where
       go : Dec (2 ^ 64 - 1 ≤ n) → run f (sum (overlap_total l) 1) ≡ refused x
       go (yes k) = sum_passes f (overlap_total l) 1 (omega arith) ∙ (sym (overlap_full k) ∙ (sym h ∙ ap outcome q))

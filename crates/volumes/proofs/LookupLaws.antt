@@ -1,27 +1,33 @@
--- Laws of a lookup: a search by halves, a child by its pointer, and the way down.
+-- Laws of a lookup: a key of the target's id, a search by halves, a leaf's turn, a child by its pointer, and the way down.
 use mathlib.Core.Path.{◌≡◌, refl, sym, ap, ◌∙◌}
 use mathlib.Core.Bool.{Bool, true, false}
 use mathlib.Core.List.{List}
-use Rattle.std.specs.Prelude.{Option, Result, Ok, Err, IsErrAnd}
+use Rattle.std.specs.Prelude.{Option, Some, Result, Ok, Err, IsErrAnd}
 use Prim.Native.Nat.{ℕ, zero, suc, ◌+◌, ◌-◌, ◌/◌, ◌^◌, ◌≤◌, ◌<◌}
 use native.Mathlib.Numerals.{add-one}
 use native.Mathlib.Omega.{arith}
-use borrow.Author.Tests.{lt-ltb, le-ltb}
+use lib.Dec.{ltb}
+use borrow.Author.Tests.{lt-ltb, le-ltb, eq-eqb, ne_eqb}
 use Rattle.fields.specs.Choice.{choose}
 use Rattle.blocks.specs.Reads.{Reads, Outcome, done, given, refused, run, ◌>>=◌}
 use Rattle.blocks.specs.clauses.Answers.{outcome, outcome_by, Always}
-use Rattle.blocks.proofs.Laws.{then_refused, is_refused, at_ok, bind_assoc}
+use Rattle.blocks.proofs.Laws.{then_given, then_refused, is_refused, at_ok, bind_assoc}
 use Rattle.blocks.specs.declared.Container.{Container}
 use Rattle.blocks.specs.declared.ObjectId.{ObjectId}
 use Rattle.blocks.specs.declared.Refusal.{Refusal}
 use Rattle.blocks.specs.declared.Refusal.TheVariants.{WrongLevel}
-use Rattle.nodes.specs.Node.{Entry, level_of, key_count, entry, pointer, read_node}
+use Rattle.nodes.specs.Node.{Entry, is_leaf, level_of, key_count, entry, pointer, read_node}
 use Rattle.nodes.specs.declared.Description.{Description}
 use Rattle.nodes.specs.Scan.{one_below}
 use Rattle.trees.specs.clauses.Walks.{pointer_of}
-use Rattle.volumes.specs.Lookup.{above_at, search_from, search, child_at, lookup_from, lookup_le}
+use Rattle.volumes.specs.Lookup.{is_above, above_at, search_from, search, child_at, lookup_from, lookup_le}
 use Rattle.volumes.specs.clauses.Answers.{along_turn}
 use Rattle.volumes.specs.declared.Turn.{Turn}
+
+-- a key of the target's id is above it by its xid
+pub above_equal : (id : ObjectId) (xid i x : ℕ) → i ≡ id.0 → ltb xid x ≡ is_above id xid i x
+unfolding is_above
+above_equal id xid i x e = let h : i ≤ id.0 = omega arith in simp (le-ltb id.0 i h, eq-eqb i id.0 e)
 
 module _ (d : Description) (id : ObjectId) (xid : ℕ) (b : List ℕ) where
   -- what is searched once the middle key was compared
@@ -65,6 +71,11 @@ module _ (d : Description) (id : ObjectId) (xid : ℕ) (b : List ℕ) where
         pub searching_past : r ≡ Ok false → Searching ((lo + hi) / 2 + 1) hi
         searching_past q = record { left = s.left - 1; enough = omega (arith, s.enough); most = s.most; rest = λ f. at_ok _ r f _ (e f) (halved (s.left - 1) lo hi) false q _ refl ∙ searching_halves f }
 
+-- an entry of a leaf
+pub leaf_read : (f : ℕ → List ℕ) (d : Description) (b : List ℕ) (i : ℕ) (x : Entry) → run f (entry d b i) ≡ given x → run f (entry d b i >>= λ x. done (Some x)) ≡ given (Some x)
+unfolding run
+leaf_read f d b i x e = then_given f _ _ x e
+
 -- a child, by its pointer
 pub child_pointed : (c : Container) (d : Description) (level : ℕ) (b : List ℕ) (i : ℕ) → pointer_of d b i >>= (λ a. read_node c (record { 0 = a }) >>= one_below level) ≡ child_at c d level b i
 unfolding child_at
@@ -78,10 +89,15 @@ module _ (f : ℕ → List ℕ) (c : Container) (d : Description) (id : ObjectId
   turn_err level view s p e g x q (Err y) same = ap refused same ∙ sym (then_refused f p g x (is_refused view s f p e x q))
   turn_err level view s p e g x q (Ok t) same = absurd same
 
+  -- a leaf's turn is to the last entry that isn't above the target
+  pub turn_leaf : (level n : ℕ) → run f (search d id c.xid b) ≡ given n → (n ≡ 0 → ⊥) → is_leaf b ≡ true → run f (lookup_from c d id (suc level) b) ≡ run f (entry d b (n - 1) >>= λ x. done (Some x))
+  unfolding lookup_from
+  turn_leaf level n e z l = then_given f _ _ n e ∙ rw (ne_eqb n 0 z, l) refl
+
   -- from the root's level down
-  pub way_first : (l : ℕ) → l ≡ level_of b → run f (lookup_from c d id (l + 1) b) ≡ run f (lookup_le c d id b)
+  pub lookup_first : (l : ℕ) → l ≡ level_of b → run f (lookup_from c d id (l + 1) b) ≡ run f (lookup_le c d id b)
   unfolding lookup_le
-  way_first l is = rw (add-one, is) refl
+  lookup_first l is = rw (add-one, is) refl
 
   -- what is left at a node is the whole
   module _ (left : ℕ) {whole : Outcome (Option Entry)} (inv : run f (lookup_from c d id left b) ≡ whole) where

@@ -91,7 +91,7 @@ fn claim_volume(
     claim_snapshots(image, map, container, volume, log)
 }
 
-// The volume of a place, whose superblock is read again.
+// The volume of a place, unless its id is 0. It is looked up again, and its superblock, which was read before, taken as it is.
 fn claim_place(
     image: &[u8],
     map: &mut [u8],
@@ -101,10 +101,12 @@ fn claim_place(
 ) -> Result<OverlapLog, Refusal>
     ensures { ClaimsAs image map objects.container log result (claims_place objects id) }
 {
-    match objects.volume_at(image, id)? {
-        None => Ok(log),
-        Some(volume) => claim_volume(image, map, objects.container, volume, log),
+    if id.0 == 0 {
+        return Ok(log);
     }
+    let at = objects.address_for(image, id)?;
+    let volume = blocks::block(image, objects.container.size, at);
+    claim_volume(image, map, objects.container, volume, log)
 }
 
 // Volume by volume, in the places of the container superblock sb.

@@ -64,7 +64,7 @@ fn read_volume(image: &[u8], container: Container, address: Address) -> Result<&
 
 impl ObjectMap {
     // The address of an id at the checkpoint's xid.
-    fn address_for(self, image: &[u8], id: ObjectId) -> Result<Address, Refusal>
+    pub(crate) fn address_for(self, image: &[u8], id: ObjectId) -> Result<Address, Refusal>
         ensures { AddressIn image self id result }
     {
         let entry = self.lookup(image, id)?.ok_or(Refusal::VolumeUnmapped)?;
@@ -81,7 +81,7 @@ impl ObjectMap {
     }
 
     // The volume of a place, by its id: where that is 0 there is none.
-    pub(crate) fn volume_at(self, image: &[u8], id: ObjectId) -> Result<Option<&[u8]>, Refusal>
+    fn volume_at(self, image: &[u8], id: ObjectId) -> Result<Option<&[u8]>, Refusal>
         ensures { SeesPlace image self id result }
     {
         if id.0 == 0 {

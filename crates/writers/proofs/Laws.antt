@@ -4,9 +4,9 @@ use mathlib.Core.List.{List, [], ◌∷◌, ◌++◌, append_assoc, append-nil}
 use Prim.Native.Nat.{ℕ, zero, suc, ◌+◌, ◌-◌, ◌*◌, ◌/◌, ◌%◌, ◌^◌, ◌≤◌, ◌<◌}
 use native.Mathlib.Nat.{pow-zero, pow-suc}
 use native.Mathlib.Omega.{arith}
-use lib.ListN.{length, take, drop, set, get_or, replicate, length-append, length-take, length-drop, length-set, length-replicate, replicate-append-replicate, take-append-drop, get_or-eq_default}
+use lib.ListN.{length, take, drop, set, get_or, replicate, length-append, length-take, length-drop, length-set, length-replicate, replicate-append-replicate, take-append-drop, drop_of_length-le, get_or-eq_default}
 use native.Mathlib.Decide.{dec_lt}
-use lib.Seq.{take_all, get_or-take, get_or-drop, drop-drop, drop-length, drop-set-lt, take-suc-set, take-take, take-add, take-append-le, drop-append-le, take_at, drop_at, length-take-le}
+use lib.Seq.{drop-cons, take_all, get_or-take, get_or-drop, drop-drop, drop-length, drop-set-lt, take-suc-set, take-take, take-add, take-append-le, drop-append-le, take_at, drop_at, length-take-le}
 use borrow.Rule.Slice.PartMut.{put_mid}
 use Rattle.fields.specs.Fields.{le, num}
 use Rattle.writers.specs.Bytes.{le_bytes}
@@ -44,6 +44,24 @@ bytes_of (suc w) (x ∷ b) small e = λ i. low i ∷ (ap (le_bytes w) high ∙ b
 
     high : (x + 256 * le b) / 256 ≡ le b
     high = omega (arith, small 0)
+
+-- a word of some bytes, as its number has it
+pub word_of : (b : List ℕ) → ((i : ℕ) → get_or b i 0 < 256) → (at : ℕ) → at + 8 ≤ length b → (x : ℕ) → x ≡ num 8 b at → le_bytes 8 x ≡ take 8 (drop at b)
+unfolding num
+word_of b small at room x p = ap (le_bytes 8) p ∙ bytes_of 8 (take 8 (drop at b)) each whole
+  where
+    long : length (drop at b) ≡ length b - at
+    long = length-drop at b
+
+    whole : length (take 8 (drop at b)) ≡ 8
+    whole = length-take-le 8 (drop at b) (omega (arith, long))
+
+    each : (i : ℕ) → get_or (take 8 (drop at b)) i 0 < 256
+    each i = go (dec_lt i 8)
+      where
+        go : Dec (i < 8) → get_or (take 8 (drop at b)) i 0 < 256
+        go (yes h) = rw (get_or-take 8 (drop at b) i 0 h, get_or-drop at b i 0) (small (at + i))
+        go (no h) = rw (get_or-eq_default (take 8 (drop at b)) 0 {n = i} (omega (arith, whole))) (omega arith)
 
 pub pair_of : (b : List ℕ) → ((i : ℕ) → get_or b i 0 < 256) → length b ≡ 16 → (x y : ℕ) → x ≡ num 8 b 0 → y ≡ num 8 b 8 → le_bytes 8 x ++ le_bytes 8 y ≡ b
 unfolding num
@@ -273,7 +291,20 @@ module _ (x : List ℕ) (at : ℕ) (first : List ℕ) where
   pub writing_from : (end : ℕ) → end ≡ at → Writing x end first x at first
   writing_from end e = record { same = refl; long = omega arith; left = ap (λ (n : ℕ). written first n x) e }
 
-  -- one piece more
+  -- one byte, or one piece, more
+  pub writing_more : (ys xs l : List ℕ) (k y : ℕ) → Writing ys (at + k) l x at first → ys ≡ y ∷ xs → at + length x ≤ length first → Writing xs (at + (k + 1)) (set l (at + k) y) x at first
+  writing_more ys xs l k y w e room =
+      let long : at + k + length (y ∷ xs) ≡ at + length x = rw e at w.long in
+      let left : written l (at + k) (y ∷ xs) ≡ written first at x = rw e at w.left in
+      record {
+        same = simp length-set w.same;
+        long = omega arith;
+        left = ap (λ (n : ℕ). written (set l (at + k) y) n xs) (next at k) ∙ written_first l xs (at + k) y (omega (arith, w.same)) ∙ left;
+      }
+    where
+      next : (m n : ℕ) → m + (n + 1) ≡ m + n + 1
+      next m n = omega arith
+
   pub writing_next : (ys y xs l after : List ℕ) (end r : ℕ) → Writing ys end l x at first → ys ≡ y ++ xs → Wrote y end l after r → Writing xs r after x at first
   writing_next ys y xs l after end r w e v =
       let long : end + length (y ++ xs) ≡ at + length x = rw e at w.long in
@@ -323,3 +354,22 @@ written_end l x at h =
     ∙ ap (λ (n : ℕ). x ++ drop n l) h
     ∙ ap (λ (t : List ℕ). x ++ t) (drop-length l)
     ∙ append-nil x
+
+-- what is left of some bytes
+pub part_more : (x : List ℕ) (k : ℕ) → k < length x → drop k x ≡ get_or x k 0 ∷ drop (k + 1) x
+part_more x k h = rw e (drop-cons x k 0 h)
+  where
+    e : k + 1 ≡ suc k
+    e = omega arith
+
+pub part_none : (x : List ℕ) (k : ℕ) → length x ≤ k → drop k x ≡ []
+part_none x k h = drop_of_length-le x h
+
+pub words_more : (x : List ℕ) (k : ℕ) → drop (k * 8) x ≡ take 8 (drop (k * 8) x) ++ drop ((k + 1) * 8) x
+words_more x k = sym (take-append-drop 8 (drop (k * 8) x)) ∙ ap (λ (l : List ℕ). take 8 (drop (k * 8) x) ++ l) (drop-drop 8 (k * 8) x ∙ ap (λ (n : ℕ). drop n x) e)
+  where
+    e : k * 8 + 8 ≡ (k + 1) * 8
+    e = omega arith
+
+pub words_room : (x first l : List ℕ) (at end k : ℕ) → Writing (drop (k * 8) x) end l x at first → at + length x ≤ length first → k < length x / 8 → end + 8 ≤ length l
+words_room x first l at end k w room some = omega (arith, w.same, w.long, length-drop (k * 8) x)

@@ -1,13 +1,16 @@
 // Writers beside the readers of `fields`: each puts bytes at a place of a lent slice that has room, and answers the place after.
 #![tactic(auto)]
 
-ghost use Rattle.std.specs.Prelude.{◌≡◌, ◌+◌, ◌≤◌, length, replicate};
+ghost use Rattle.std.specs.Prelude.{◌≡◌, ◌+◌, ◌%◌, ◌≤◌, length, replicate};
 ghost use Rattle.writers.specs.Bytes.{le_bytes};
 ghost use Rattle.writers.specs.clauses.Wrote.{Wrote};
 
 const BYTE_VALUES: u64 = 256;
 
 const WORD: usize = 8;
+
+// From so many bytes on a piece is a long one.
+const MANY: usize = 4 * WORD;
 
 // A number in width bytes, lowest first; what doesn't fit them is dropped.
 pub fn put(out: &mut [u8], at: usize, width: usize, number: u64) -> usize
@@ -23,13 +26,40 @@ pub fn put(out: &mut [u8], at: usize, width: usize, number: u64) -> usize
     end
 }
 
+// Whole words, each with one load and one store.
+fn put_words(out: &mut [u8], at: usize, words: &[u8]) -> usize
+    requires { (at + length words.now ≤ length out.old) × (length words.now % 8 ≡ 0) }
+    ensures { Wrote words.now at out.old out.new result }
+{
+    let mut end = at;
+    for k in 0..words.len() / WORD {
+        end = put(out, end, WORD, fields::u64_of(words, k * WORD));
+    }
+    end
+}
+
+fn put_each(out: &mut [u8], at: usize, bytes: &[u8]) -> usize
+    requires { at + length bytes.now ≤ length out.old }
+    ensures { Wrote bytes.now at out.old out.new result }
+{
+    for (i, byte) in bytes.iter().enumerate() {
+        out[at + i] = *byte;
+    }
+    at + bytes.len()
+}
+
+// A long piece byte by byte, of which the compiler does many at once; a shorter one by its words first. Not by `memmove`, which a
+// caller in C would have to bring.
 pub fn put_bytes(out: &mut [u8], at: usize, bytes: &[u8]) -> usize
     requires { at + length bytes.now ≤ length out.old }
     ensures { Wrote bytes.now at out.old out.new result }
 {
-    let end = at + bytes.len();
-    out[at..end].copy_from_slice(bytes);
-    end
+    if MANY <= bytes.len() {
+        return put_each(out, at, bytes);
+    }
+    let (words, rest) = bytes.split_at(bytes.len() / WORD * WORD);
+    let end = put_words(out, at, words);
+    put_each(out, end, rest)
 }
 
 // Bytes that are two words, each with one load and one store.

@@ -1,6 +1,10 @@
--- A table of texts in one list of bytes: rows, each with a newline behind it.
-use Rattle.std.specs.Prelude.{ℕ, zero, suc, ◌+◌, List, [], ◌∷◌, take, ◌==◌}
+-- Texts in one table, by their numbers; and such a table as one list of bytes: rows, each with a newline behind it.
+use Rattle.std.specs.Prelude.{ℕ, zero, suc, ◌+◌, List, [], ◌∷◌, take, ◌==◌, slice_index_or}
 use Rattle.fields.specs.Choice.{pick}
+
+-- the text of a number, none where the table has no such number
+abbrev pub text_of : List (List ℕ) → ℕ → List ℕ
+text_of texts k = slice_index_or texts k []
 
 abbrev pub newline : ℕ
 newline = 10

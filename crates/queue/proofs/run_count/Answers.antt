@@ -1,11 +1,10 @@
-use Rattle.std.proofs.Common.{rules}
-use Rattle.blocks.specs.Reads.{run}
+use Rattle.std.proofs.Common.{rules, sym}
 use Rattle.queue.specs.Queue.{run_count}
+use Rattle.queue.proofs.Laws.{count_ghost}
 use Rattle.queue.proofs.run_count.Goals as goal
 
 pub returns-in-None : goal.returns-in-None
-unfolding run_count run
-returns-in-None c = λ f. search rules
+returns-in-None c = λ f. sym (count_ghost f c.args.node.now _ c.in-None.is)
 
 pub returns-in-Some : goal.returns-in-Some
 unfolding run_count

@@ -1,7 +1,8 @@
 -- What the code's answers stand for.
-use Rattle.std.specs.Prelude.{List, [], ◌∷◌, ◌≡◌, ℕ, zero, suc, ◌+◌}
+use Rattle.std.specs.Prelude.{List, [], ◌∷◌, ◌≡◌, ℕ, zero, suc, ◌+◌, eqb}
 use Rattle.std.specs.Prelude.{Option, Some, None, Result, Ok, Err}
 use Rattle.std.specs.Borrow.{Bor}
+use Rattle.fields.specs.Choice.{choose}
 use Rattle.blocks.specs.Reads.{Reads, done, Outcome, given, refused, run, ◌>>=◌}
 use Rattle.blocks.specs.clauses.Images.{Lent, bytes, blocks_in, Pass}
 use Rattle.blocks.specs.clauses.Answers.{outcome, outcome_by, slice_as, Always}
@@ -18,7 +19,7 @@ use Rattle.block_map.specs.BlockMap.{Marked}
 use Rattle.report.specs.declared.Cursor.{Cursor}
 use Rattle.report.specs.declared.OverlapLog.{OverlapLog}
 use Rattle.volumes.specs.Lookup.{lookup_from, lookup_le}
-use Rattle.volumes.specs.Volumes.{mapped_by, address_for, volume_for, volume_at, claim_each, claim_volumes}
+use Rattle.volumes.specs.Volumes.{mapped_by, address_for, volume_for, volume_at, claim_volume, claim_volumes}
 use Rattle.volumes.specs.declared.LeafEntry.{LeafEntry}
 use Rattle.volumes.specs.declared.ObjectMap.{ObjectMap}
 use Rattle.volumes.specs.declared.Turn.{Turn}
@@ -63,16 +64,20 @@ listed (Some v) = v.now ∷ []
 abbrev pub SeesPlace : Lent → ObjectMap → ObjectId → Result (Option (Bor (List ℕ))) Refusal → Type 0
 SeesPlace image o id r = let f = blocks_in image.entry o.container in outcome_by listed r ≡ run f (volume_at o.container o.description (f o.root.0) id)
 
--- the places of the superblock sb from the i-th on, of which left are left: whether their volumes are there, and the claims of these, which are
--- read again for it
+-- the places of the superblock sb from the i-th on, of which left are left: whether their volumes are there
 module _ (c : Container) (d : Description) (b sb : List ℕ) where
   unfoldable pub there_from : ℕ → ℕ → Reads (Unit {0})
   there_from zero i = done tt
   there_from (suc left) i = volume_at c d b (volume_id sb i) >>= λ _. there_from left (i + 1)
 
-  unfoldable pub claims_from : ℕ → ℕ → Marked OverlapLog → Reads (Marked OverlapLog)
-  claims_from zero i s = done s
-  claims_from (suc left) i s = volume_at c d b (volume_id sb i) >>= (λ vs. claim_each c vs s) >>= claims_from left (i + 1)
+-- and the claims of a place's volume, which is looked up again and its superblock taken as it is; so of those places' volumes
+module _ (f : ℕ → List ℕ) (c : Container) (d : Description) (b : List ℕ) where
+  unfoldable pub claim_again : ObjectId → Marked OverlapLog → Reads (Marked OverlapLog)
+  claim_again id s = choose (eqb id.0 0) (λ _. done s) (λ _. address_for c d b id >>= λ a. claim_volume c (f a.0) s)
+
+  unfoldable pub claims_from : List ℕ → ℕ → ℕ → Marked OverlapLog → Reads (Marked OverlapLog)
+  claims_from sb zero i s = done s
+  claims_from sb (suc left) i s = claim_again (volume_id sb i) s >>= claims_from sb left (i + 1)
 
 -- whether all superblocks that sb names may be read
 abbrev pub SeesVolumes : Lent → ObjectMap → Lent → Result (Unit {0}) Refusal → Type 0
@@ -81,10 +86,10 @@ SeesVolumes image o sb r =
 
 -- the claims of a place's volume, and of those of the places from a cursor on; of all places, and of all volumes, once their superblocks were read
 abbrev pub claims_place : ObjectMap → ObjectId → Pass (Marked OverlapLog) (Marked OverlapLog)
-claims_place o id f s = volume_at o.container o.description (f o.root.0) id >>= λ vs. claim_each o.container vs s
+claims_place o id f = claim_again f o.container o.description (f o.root.0) id
 
 abbrev pub places_left : ObjectMap → List ℕ → Cursor → Pass (Marked OverlapLog) (Marked OverlapLog)
-places_left o sb at f = claims_from o.container o.description (f o.root.0) sb at.left at.next
+places_left o sb at f = claims_from f o.container o.description (f o.root.0) sb at.left at.next
 
 abbrev pub claims_places : ObjectMap → Lent → Pass (Marked OverlapLog) (Marked OverlapLog)
 claims_places o sb = places_left o (bytes sb) (record { next = 0; left = volume_places (bytes sb) })

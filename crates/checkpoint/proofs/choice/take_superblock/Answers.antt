@@ -1,4 +1,4 @@
-use Rattle.std.proofs.Common.{◌≡◌, refl, sym, ap, ◌∙◌, ◌+◌, true, false, rules, arith}
+use Rattle.std.proofs.Common.{◌≡◌, refl, sym, ◌∙◌, ◌+◌, true, false, rules, arith}
 use Rattle.blocks.specs.Reads.{run}
 use Rattle.blocks.specs.Blocks.{block_of}
 use Rattle.checkpoint.specs.Map.{chain}

@@ -3,11 +3,11 @@ use Rattle.std.specs.Prelude.{Ok}
 use Rattle.nodes.specs.Node.{level_of}
 use Rattle.report.proofs.StepLaws.{passed_on}
 use Rattle.volumes.specs.clauses.Answers.{along_turn}
-use Rattle.volumes.proofs.LookupLaws.{way_first, way_out, way_told}
+use Rattle.volumes.proofs.LookupLaws.{lookup_first, way_out, way_told}
 use Rattle.volumes.proofs.ObjectMap.lookup.Goals as goal
 
 pub loop-level-init : goal.loop-level-init
-loop-level-init c = way_first _ _ _ _ _ _ (c.level-levels.ensures.0 ∙ ap level_of c.block.ensures)
+loop-level-init c = lookup_first _ _ _ _ _ _ (c.level-levels.ensures.0 ∙ ap level_of c.block.ensures)
 
 pub returns-in_err-turn : goal.returns-in_err-turn
 unfolding along_turn

@@ -1,7 +1,6 @@
 use mathlib.Core.Path.{sym, ap, ◌∙◌}
 use Rattle.blocks.specs.Reads.{run}
 use Rattle.blocks.proofs.Laws.{at_err, at_ok, is_given}
-use Rattle.nodes.specs.Scan.{one_below}
 use Rattle.nodes.proofs.Laws.{node_given}
 use Rattle.volumes.proofs.LookupLaws.{child_pointed}
 use Rattle.volumes.proofs.lookup.child_at.Goals as goal

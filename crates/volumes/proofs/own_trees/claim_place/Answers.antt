@@ -1,16 +1,18 @@
-use Rattle.report.proofs.StepLaws.{read_stop, read_then, stays_ok, stepped_is}
 use mathlib.Core.Path.{refl}
+use borrow.Author.Tests.{eq-eqb, ne_eqb}
 use Rattle.blocks.specs.Reads.{run}
-use Rattle.volumes.specs.Volumes.{claim_each}
-use Rattle.volumes.proofs.ClaimLaws.{each_one}
+use Rattle.report.proofs.StepLaws.{read_stop, read_then, stays_ok}
+use Rattle.volumes.specs.clauses.Answers.{claim_again}
 use Rattle.volumes.proofs.own_trees.claim_place.Goals as goal
 
-pub returns-in_err-volume_at : goal.returns-in_err-volume_at
-returns-in_err-volume_at c = read_stop _ _ _ c.volume_at.ensures _ c.in_err-volume_at.was c.from_residual.ensures.1
+pub returns-then-id-eq0 : goal.returns-then-id-eq0
+unfolding run claim_again
+returns-then-id-eq0 c = stays_ok _ _ _ _ (rw (eq-eqb _ 0 c.if-id-eq0.true) refl)
 
-pub returns-in-None : goal.returns-in-None
-unfolding claim_each run
-returns-in-None c = read_then _ _ _ c.volume_at.ensures _ c.in_ok-volume_at.was (rw c.in-None.is (stays_ok _ _ _ _ refl))
+pub returns-in_err-at : goal.returns-in_err-at
+unfolding claim_again
+returns-in_err-at c = rw (ne_eqb _ 0 c.if-id-eq0.false) (read_stop _ _ _ c.address_for.ensures _ c.in_err-at.was c.from_residual.ensures.1)
 
-pub returns-in-Some : goal.returns-in-Some
-returns-in-Some c = read_then _ _ _ c.volume_at.ensures _ c.in_ok-volume_at.was (rw c.in-Some.is (stepped_is c.claim_volume.ensures (each_one _ _ _)))
+pub returns : goal.returns
+unfolding claim_again
+returns c = rw (ne_eqb _ 0 c.if-id-eq0.false) (read_then _ _ _ c.address_for.ensures _ c.in_ok-at.was (rw c.block-volume.ensures at c.claim_volume.ensures))

@@ -1,0 +1,2 @@
+-- Laws of the queue's entries.
+pub mod Laws
